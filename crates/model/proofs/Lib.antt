@@ -1,0 +1,12 @@
+pub mod Codes
+pub mod Laid
+pub mod Plan
+pub mod Formed
+pub mod Some
+pub mod One
+pub mod Refused
+pub mod Halted
+pub mod Slots
+pub mod Loads
+pub mod Memory
+pub mod Worked

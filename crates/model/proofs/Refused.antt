@@ -1,0 +1,83 @@
+-- A refused entry leaves the state as it was and adds no action.
+use mathlib.Core.Path.{_≡_, refl, sym, ap, _∙_}
+use mathlib.Core.Logic.{_⊎_, inl, inr}
+use mathlib.Core.Bool.{Bool, true, false, _||_}
+use mathlib.Core.Option.{Option, none, some}
+use mathlib.Core.List.{List, [], _∷_}
+use Prim.Native.Nat.{ℕ, _≤_, _<_}
+use native.Mathlib.Omega.{arith}
+use native.Mathlib.Decide.{decLe}
+use lib.Dec.{eqb}
+use lib.ListN.{length}
+use borrow.Author.Tests.{ne-eqb}
+use Rattle.order.specs.Trace.{Core, Ring, Act, idle, Trace, act}
+use Rattle.order.specs.Order.{Orders}
+use Rattle.order.proofs.Trace.{clash, act-next, act-old, act-out}
+use Rattle.model.specs.File.{Entry}
+use Rattle.model.specs.Marks.{raceFound, noSuchCore}
+use Rattle.model.specs.Queue.{Shape, Queue}
+use Rattle.model.specs.Plan.{Plan, refuse, perform, unless-hidden, unless-race, plan}
+use Rattle.model.specs.Run.{Result, refused, Does, State, after, coreOf, theRing, Entered, Step}
+use Rattle.model.proofs.Plan.{Planned, no-batch, no-age, past, owning, failing, keeping, storing, loading, completing, planned}
+
+-- The marks that a plan can give: 129 and above where it refuses, 1 to 6 where it performs.
+abbrev pub PlanMarks : Plan → Type 0
+PlanMarks (refuse n) = noSuchCore ≤ n
+PlanMarks (perform n a z) = n < raceFound
+PlanMarks (unless-hidden x s n z) = n < raceFound
+PlanMarks (unless-race x a n z) = n < raceFound
+
+planned-marks : {g : Shape} {r : Ring} {c : Core} {q : Queue} {t : Trace} {age : ℕ} {p : Plan} → Planned g r c q t age p → PlanMarks p
+planned-marks (no-batch e) = omega arith
+planned-marks no-age = omega arith
+planned-marks past = omega arith
+planned-marks (owning n rest eb ep) = omega arith
+planned-marks (failing n rest s eb ep e h) = omega arith
+planned-marks (keeping n rest s eb ep e h) = omega arith
+planned-marks (storing n rest i eb ep l k) = omega arith
+planned-marks (loading n rest i eb ep l k) = omega arith
+planned-marks (completing n rest i eb ep l) = omega arith
+
+pub plan-marks : (g : Shape) (r : Ring) (c : Core) (q : Queue) (t : Trace) (age : ℕ) → PlanMarks (plan g r c q t age)
+plan-marks g r c q t age = planned-marks (planned g r c q t age)
+
+does-refused : (o : Orders) (c : Core) (q : Queue) (t : Trace) (p : Plan) (x : Result) → PlanMarks p → Does o c q t p x → noSuchCore ≤ x .mark
+    → x ≡ refused q (x .mark)
+does-refused o c q t (refuse n) x h d l = rw d
+does-refused o c q t (perform n a z) x h d l = let e : x .mark ≡ n = rw d in absurd (omega arith)
+does-refused o c q t (unless-hidden p s n z) x h (inl d) l = rw (d .1)
+does-refused o c q t (unless-hidden p s n z) x h (inr d) l = let e : x .mark ≡ n = rw (d .1) in absurd (omega arith)
+does-refused o c q t (unless-race p a n z) x h (inl d) l = let e : x .mark ≡ raceFound = rw (d .2) in absurd (omega arith)
+does-refused o c q t (unless-race p a n z) x h (inr d) l = let e : x .mark ≡ n = rw (d .1) in absurd (omega arith)
+
+entered-refused : (g : Shape) (s : State) (age : ℕ) (c : Option Core) (h : Bool) (x : Result) → Entered g s age c h x → noSuchCore ≤ x .mark
+    → x ≡ refused (s .queue) (x .mark)
+entered-refused g s age none h x d l = rw d
+entered-refused g s age (some c) true x d l = rw d
+entered-refused g s age (some c) false x d l =
+    does-refused (g .orders) c (s .queue) (s .trace) (plan g theRing c (s .queue) (s .trace) age) x
+    (plan-marks g theRing c (s .queue) (s .trace) age) d l
+
+or-false : (b : Bool) → (b || false) ≡ b
+or-false true = refl
+or-false false = refl
+
+idle-adds-nothing : (t : Trace) (p : ℕ) → act (idle ∷ t) p ≡ act t p
+idle-adds-nothing t p = elim (decLe p (length t)) [
+  | yes q ↦ act-old idle t p q
+  | no q ↦ go (act-out t p (omega arith)) (eqb p (Rattle.order.specs.Trace.next t)) refl
+]
+  where
+    go : act t p ≡ idle → (b : Bool) → eqb p (Rattle.order.specs.Trace.next t) ≡ b → act (idle ∷ t) p ≡ act t p
+    go e true k = rw (k, e)
+    go e false k = rw k
+
+-- A REFUSED ENTRY: the queue and whether the machine has halted stay, and every entry did what it did; this one did nothing.
+pub refused-changes-nothing : (g : Shape) (s : State) (e : Entry) (x : Result) → Step g s e x → noSuchCore ≤ x .mark
+    → (x .did ≡ idle) × (after s x .queue ≡ s .queue) × (after s x .halted ≡ s .halted)
+    × ((p : ℕ) → act (after s x .trace) p ≡ act (s .trace) p)
+refused-changes-nothing g s e x d l =
+    let k = entered-refused g s (e .age) (coreOf (e .core)) (s .halted) x d l in
+    let ed : x .did ≡ idle = ap (λ (y : Result). y .did) k in
+    let eq : x .queue ≡ s .queue = ap (λ (y : Result). y .queue) k in
+    (ed, eq, rw (ne-eqb (x .mark) raceFound (omega arith)) (or-false (s .halted)), λ p. rw ed (idle-adds-nothing (s .trace) p))

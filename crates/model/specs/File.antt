@@ -1,0 +1,84 @@
+-- The run file: a list of bytes, and where each of its parts lies.
+use mathlib.Core.Bool.{Bool}
+use mathlib.Core.List.{List, [], _∷_}
+use Prim.Native.Nat.{ℕ, _+_, _*_, _/_, _%_, _^_}
+use lib.Dec.{eqb}
+use lib.ListN.{getD, take, drop}
+use Rattle.order.specs.Trace.{Core, core0, core1}
+use Rattle.order.specs.Order.{Orders}
+use Rattle.model.specs.Limits.{headerBytes}
+
+abbrev pub byteAt : List ℕ → ℕ → ℕ
+byteAt f i = getD f i 0
+
+-- Four bytes from place i on, as a little-endian number.
+abbrev pub number4 : List ℕ → ℕ → ℕ
+number4 f i = byteAt f i + 256 * byteAt f (i + 1) + 65536 * byteAt f (i + 2) + 16777216 * byteAt f (i + 3)
+
+unfoldable pub total : List ℕ → ℕ
+total [] = 0
+total (n ∷ ns) = n + total ns
+
+-- Byte 0: the ring size, m.
+abbrev pub ringSize : List ℕ → ℕ
+ringSize f = byteAt f 0
+
+-- Bytes 1 to 4: the index modulus, M.
+abbrev pub modulusOf : List ℕ → ℕ
+modulusOf f = number4 f 1
+
+-- Byte 5: the order bits.
+abbrev pub orderBits : List ℕ → ℕ
+orderBits f = byteAt f 5
+
+-- Bytes 6 and 7: how many push batches and how many pop batches.
+abbrev pub pushCount : List ℕ → ℕ
+pushCount f = byteAt f 6
+
+abbrev pub popCount : List ℕ → ℕ
+popCount f = byteAt f 7
+
+-- Then the size of each push batch, and of each pop batch.
+unfoldable pub pushSizes : List ℕ → List ℕ
+pushSizes f = take (pushCount f) (drop headerBytes f)
+
+unfoldable pub popSizes : List ℕ → List ℕ
+popSizes f = take (popCount f) (drop (headerBytes + pushCount f) f)
+
+-- Where the sizes end and the bytes to push begin.
+abbrev pub sizesEnd : List ℕ → ℕ
+sizesEnd f = headerBytes + pushCount f + popCount f
+
+-- The bytes to push, as many as the push sizes add up to.
+unfoldable pub pushBytes : List ℕ → List ℕ
+pushBytes f = take (total (pushSizes f)) (drop (sizesEnd f) f)
+
+-- Where the bytes to push end and the schedule begins.
+unfoldable pub scheduleAt : List ℕ → ℕ
+scheduleAt f = sizesEnd f + total (pushSizes f)
+
+-- An entry of the schedule: two bytes.
+pub record Entry : Type 0 where
+  pub core : ℕ
+  pub age : ℕ
+
+abbrev pub pairs : List ℕ → List Entry
+pairs [] = []
+pairs (a ∷ []) = []
+pairs (a ∷ b ∷ l) = record { core = a; age = b } ∷ pairs l
+
+-- The schedule: the rest of the file.
+unfoldable pub scheduleOf : List ℕ → List Entry
+scheduleOf f = pairs (drop (scheduleAt f) f)
+
+-- Is bit k of n set?
+abbrev pub bit : ℕ → ℕ → Bool
+bit n k = eqb (n / 2 ^ k % 2) 1
+
+-- Order bits, set for strong. Bit 0: the producer's load of front is acquire; bit 1: its store of back is release; bit 2: the consumer's load of
+-- back is acquire; bit 3: its store of front is release.
+abbrev pub ordersOf : ℕ → Orders
+ordersOf n = record {
+  acquire = λ r c. elim c [ core0 ↦ bit n 0 | core1 ↦ bit n 2 ];
+  release = λ r c. elim c [ core0 ↦ bit n 1 | core1 ↦ bit n 3 ];
+}

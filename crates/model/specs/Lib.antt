@@ -1,0 +1,11 @@
+pub mod Limits
+pub mod File
+pub mod Codes
+pub mod Marks
+pub mod Queue
+pub mod Plan
+pub mod Run
+pub mod Report
+pub mod Outcome
+pub mod Worked
+pub mod computed

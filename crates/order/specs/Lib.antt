@@ -1,0 +1,5 @@
+pub mod Trace
+pub mod Order
+pub mod Hidden
+pub mod Race
+pub mod computed
