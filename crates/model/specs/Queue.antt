@@ -46,13 +46,16 @@ pushes zero core1 = false
 pushes (suc r) core0 = false
 pushes (suc r) core1 = true
 
--- Room is (cached front + m - own) mod M for a push, (cached back - own) mod M for a pop; own is below M.
+-- Room is (cached front + m - own) mod M for a push, (cached back - own) mod M for a pop: the lead is m or 0. Own is below M.
+abbrev pub roomOf : (lead M own cached : ℕ) → ℕ
+roomOf lead M own cached = (cached + lead + (M - own)) % M
+
+-- Is room below the batch size n?
+abbrev pub shortOf : (lead M n own cached : ℕ) → Bool
+shortOf lead M n own cached = ltb (roomOf lead M own cached) n
+
 abbrev pub lead : Shape → Ring → Core → ℕ
 lead g r c = cond (pushes r c) (g .size) 0
 
-abbrev pub room : Shape → Ring → Core → (own cached : ℕ) → ℕ
-room g r c own cached = (cached + lead g r c + (g .modulus - own)) % g .modulus
-
--- Is room below the batch size n?
 abbrev pub isShort : Shape → Ring → Core → (n own cached : ℕ) → Bool
-isShort g r c n own cached = ltb (room g r c own cached) n
+isShort g r c n own cached = shortOf (lead g r c) (g .modulus) n own cached
