@@ -9,4 +9,5 @@ pub mod Halted
 pub mod Slots
 pub mod Loads
 pub mod Memory
+pub mod Report
 pub mod Worked

@@ -20,7 +20,7 @@ use Rattle.order.proofs.Record.{hidden-by-record, AccessOf, race-by-rec
 
 -- Is it hidden?
 
-newer-true : (l : List ℕ) (s k : ℕ) → newer l s k ≡ true → (i n : ℕ) × (getElem? l i ≡ some n) × (s < n) × (n ≤ k)
+pub newer-true : (l : List ℕ) (s k : ℕ) → newer l s k ≡ true → (i n : ℕ) × (getElem? l i ≡ some n) × (s < n) × (n ≤ k)
 newer-true [] s k e = clash (cc)
 newer-true (n ∷ ns) s k e = go (ltb s n && leb n k) refl e (newer-true ns s k)
   where

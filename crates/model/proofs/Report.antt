@@ -1,0 +1,216 @@
+-- Laws of the report's numbers: every entry is performed or refused, a data load is a byte of out, and the sizes of the completed batches add
+-- up to the bytes of the completed batches.
+use mathlib.Core.Path.{_≡_, refl, sym, ap, _∙_}
+use mathlib.Core.Logic.{_⊎_, inl, inr}
+use mathlib.Core.Bool.{Bool, true, false, cond, _&&_, not}
+use mathlib.Core.Option.{Option, none, some}
+use mathlib.Core.List.{List, [], _∷_, _++_}
+use Prim.Native.Nat.{ℕ, zero, suc, _+_, _≤_, _<_}
+use native.Mathlib.Omega.{arith}
+use lib.Dec.{eqb, leb}
+use lib.ListN.{length, length-append}
+use borrow.Author.Tests.{ne-eqb}
+use Rattle.order.specs.Trace.{Core, core0, core1, sameCore, Ring, Act, idle, Trace, who}
+use Rattle.order.specs.Order.{Orders}
+use Rattle.order.proofs.Trace.{clash, same-self, same-true, same-false}
+use Rattle.model.specs.File.{Entry, total, pushSizes, popSizes}
+use Rattle.model.specs.Marks.{raceFound, batchFailed, dataLoaded, indexStored, noSuchCore, isHalted, storeHidden}
+use Rattle.model.specs.Queue.{Shape, Phase, start, reload, moving, Side, Queue, withSide, isShort}
+use Rattle.model.specs.Plan.{Plan, plan}
+use Rattle.model.specs.Run.{Result, refused, Does, State, after, coreOf, theRing, Entered, Step, Runs, stop, move, shapeOf, fresh}
+use Rattle.model.specs.Report.{one, count, marked, entryPerformed, entryRefused, isCore, markedOf, completedOf}
+use Rattle.model.proofs.Plan.{Planned, no-batch, no-age, past, owning, failing, keeping, storing, loading, completing, planned}
+
+-- PERFORMED AND REFUSED are together every entry.
+pub performed-and-refused : (xs : List Result) → count entryPerformed xs + count entryRefused xs ≡ length xs
+performed-and-refused [] = refl
+performed-and-refused (x ∷ xs) = let ih = performed-and-refused xs in go (entryPerformed x) ih
+  where
+    go : (b : Bool) → count entryPerformed xs + count entryRefused xs ≡ length xs
+        → (one b + count entryPerformed xs) + (one (not b) + count entryRefused xs) ≡ suc (length xs)
+    go true h = omega arith
+    go false h = omega arith
+
+-- DATA LOADS MADE are the bytes of out.
+
+grows : (q : Queue) (x : Result) (n : ℕ) → x .mark ≡ n → eqb n dataLoaded ≡ false → x .queue .out ≡ q .out → length (x .queue .out) ≡ length (q .out) + one (marked dataLoaded x)
+grows q x n e k h = rw (e, k, h) (omega arith)
+
+does-grows : (o : Orders) {g : Shape} {r : Ring} {c : Core} {q : Queue} {t : Trace} {age : ℕ} {p : Plan} → Planned g r c q t age p → (x : Result)
+    → Does o c q t p x → length (x .queue .out) ≡ length (q .out) + one (marked dataLoaded x)
+does-grows o {q = q} (no-batch e) x d = grows q x _ (ap (λ (y : Result). y .mark) d) refl (rw d)
+does-grows o {q = q} no-age x d = grows q x _ (ap (λ (y : Result). y .mark) d) refl (rw d)
+does-grows o {q = q} past x d = grows q x _ (ap (λ (y : Result). y .mark) d) refl (rw d)
+does-grows o {q = q} (owning n rest eb ep) x d = grows q x _ (ap (λ (y : Result). y .mark) d) refl (rw d)
+does-grows o {q = q} (failing n rest s eb ep e h) x (inl d) = grows q x _ (ap (λ (y : Result). y .mark) (d .1)) refl (rw (d .1))
+does-grows o {q = q} (failing n rest s eb ep e h) x (inr d) = grows q x _ (ap (λ (y : Result). y .mark) (d .1)) refl (rw (d .1))
+does-grows o {q = q} (keeping n rest s eb ep e h) x (inl d) = grows q x _ (ap (λ (y : Result). y .mark) (d .1)) refl (rw (d .1))
+does-grows o {q = q} (keeping n rest s eb ep e h) x (inr d) = grows q x _ (ap (λ (y : Result). y .mark) (d .1)) refl (rw (d .1))
+does-grows o {q = q} (storing n rest i eb ep l k) x (inl d) = grows q x _ (ap (λ (y : Result). y .mark) (d .2)) refl (rw (d .2))
+does-grows o {q = q} (storing n rest i eb ep l k) x (inr d) = grows q x _ (ap (λ (y : Result). y .mark) (d .1)) refl (rw (d .1))
+does-grows o {q = q} (loading n rest i eb ep l k) x (inl d) = grows q x _ (ap (λ (y : Result). y .mark) (d .2)) refl (rw (d .2))
+does-grows o {q = q} (loading n rest i eb ep l k) x (inr d) = rw (d .1) (length-append (q .out) _)
+does-grows o {q = q} (completing n rest i eb ep l) x d = grows q x _ (ap (λ (y : Result). y .mark) d) refl (rw d)
+
+entered-grows : (g : Shape) (s : State) (age : ℕ) (c : Option Core) (h : Bool) (x : Result) → Entered g s age c h x
+    → length (x .queue .out) ≡ length (s .queue .out) + one (marked dataLoaded x)
+entered-grows g s age none h x d = grows (s .queue) x noSuchCore (ap (λ (y : Result). y .mark) d) refl (rw d)
+entered-grows g s age (some c) true x d = grows (s .queue) x isHalted (ap (λ (y : Result). y .mark) d) refl (rw d)
+entered-grows g s age (some c) false x d = does-grows (g .orders) (planned g theRing c (s .queue) (s .trace) age) x d
+
+pub loads-are-bytes : {g : Shape} {s z : State} {es : List Entry} {xs : List Result} → Runs g s es xs z
+    → length (z .queue .out) ≡ length (s .queue .out) + count (marked dataLoaded) xs
+loads-are-bytes {s = s} stop = omega arith
+loads-are-bytes {g} (move {s = s} {e = e} {x = x} {xs = xs} a p) =
+    let ih = loads-are-bytes p in
+    let k = entered-grows g s (e .age) (coreOf (e .core)) (s .halted) x a in
+    omega arith
+
+-- COMPLETED BATCHES: their sizes add up to their bytes.
+
+-- In a batch, as many bytes are moved as the phase says, and no more than the batch has.
+abbrev SoundAt : Side → Phase → Type 0
+SoundAt me start = Unit {0}
+SoundAt me reload = Unit {0}
+SoundAt me (moving i) = (length (me .moved) ≡ i) × ((n : ℕ) (rest : List ℕ) → me .batches ≡ n ∷ rest → i ≤ n)
+
+abbrev Sound : Side → Type 0
+Sound me = SoundAt me (me .phase)
+
+moved-one : (me : Side) (n : ℕ) (rest : List ℕ) (i byte : ℕ) → SoundAt me (moving i) → i < n
+    → (length (me .moved ++ (byte ∷ [])) ≡ suc i) × ((m : ℕ) (l : List ℕ) → n ∷ rest ≡ m ∷ l → suc i ≤ m)
+moved-one me n rest i byte z l = (length-append (me .moved) (byte ∷ []) ∙ omega (arith, z .0), λ m k e. let en : n ≡ m = cc in omega arith)
+
+all-moved : (me : Side) (n : ℕ) (rest : List ℕ) (i : ℕ) → me .batches ≡ n ∷ rest → SoundAt me (moving i) → n ≤ i
+    → length (me .completed) + length (me .moved) ≡ length (me .completed) + n
+all-moved me n rest i eb z l = omega (arith, z .0, z .1 n rest eb)
+
+-- What an entry makes of the side of the core that moves, as far as its batches go.
+data Mine (a b : Side) (mark : ℕ) : Type 0 where
+  stays : eqb mark batchFailed ≡ false → eqb mark indexStored ≡ false → b .batches ≡ a .batches → b .completed ≡ a .completed → (Sound a → Sound b) → Mine a b mark
+  fails : (n : ℕ) (rest : List ℕ) → mark ≡ batchFailed → a .batches ≡ n ∷ rest → b .batches ≡ rest → b .completed ≡ a .completed → b .phase ≡ start → Mine a b mark
+  completes : (n : ℕ) (rest : List ℕ) → mark ≡ indexStored → a .batches ≡ n ∷ rest → b .batches ≡ rest → b .phase ≡ start
+      → (Sound a → length (b .completed) ≡ length (a .completed) + n) → Mine a b mark
+
+-- What an entry of core d changes: nothing, or that core's side.
+data Changed (q : Queue) (d : Core) (x : Result) : Type 0 where
+  nothing : x .queue ≡ q → eqb (x .mark) batchFailed ≡ false → eqb (x .mark) indexStored ≡ false → Changed q d x
+  side : (me : Side) → x .queue .side ≡ withSide (q .side) d me → who (x .did) ≡ some d → Mine (q .side d) me (x .mark) → Changed q d x
+
+stayed : (q : Queue) (d : Core) (x : Result) (n : ℕ) → x .mark ≡ n → eqb n batchFailed ≡ false → eqb n indexStored ≡ false → x .queue ≡ q → Changed q d x
+stayed q d x n e h k z = nothing z (rw e h) (rw e k)
+
+does-changed : (o : Orders) {g : Shape} {r : Ring} {c : Core} {q : Queue} {t : Trace} {age : ℕ} {p : Plan} → Planned g r c q t age p → (x : Result)
+    → Does o c q t p x → Changed q c x
+does-changed o {c = c} {q = q} (no-batch e) x d = stayed q c x _ (ap (λ (y : Result). y .mark) d) refl refl (rw d)
+does-changed o {c = c} {q = q} no-age x d = stayed q c x _ (ap (λ (y : Result). y .mark) d) refl refl (rw d)
+does-changed o {c = c} {q = q} past x d = stayed q c x _ (ap (λ (y : Result). y .mark) d) refl refl (rw d)
+does-changed o {g} {r} {c = c} {q = q} (owning n rest eb ep) x d =
+    rw d (side _ refl refl (stays refl refl (sym eb) refl (λ _. go (isShort g r c n _ (q .side c .cached)) _ refl)))
+  where
+    go : (b : Bool) (me : Side) → me .moved ≡ [] → SoundAt me (cond b reload (moving 0))
+    go true me e = tt
+    go false me e = (ap length e, λ n rest k. omega arith)
+does-changed o {c = c} {q = q} (failing n rest s eb ep e h) x (inl d) = stayed q c x _ (ap (λ (y : Result). y .mark) (d .1)) refl refl (rw (d .1))
+does-changed o {c = c} {q = q} (failing n rest s eb ep e h) x (inr d) = rw (d .1) (side _ refl refl (fails n rest refl eb refl refl refl))
+does-changed o {c = c} {q = q} (keeping n rest s eb ep e h) x (inl d) = stayed q c x _ (ap (λ (y : Result). y .mark) (d .1)) refl refl (rw (d .1))
+does-changed o {c = c} {q = q} (keeping n rest s eb ep e h) x (inr d) =
+    rw (d .1) (side _ refl refl (stays refl refl (sym eb) refl (λ _. (refl, λ m l k. omega arith))))
+does-changed o {c = c} {q = q} (storing n rest i eb ep l k) x (inl d) = stayed q c x _ (ap (λ (y : Result). y .mark) (d .2)) refl refl (rw (d .2))
+does-changed o {c = c} {q = q} (storing n rest i eb ep l k) x (inr d) =
+    rw (d .1) (side _ refl refl (stays refl refl (sym eb) refl (λ z. moved-one (q .side c) n rest i _ (rw ep at z) l)))
+does-changed o {c = c} {q = q} (loading n rest i eb ep l k) x (inl d) = stayed q c x _ (ap (λ (y : Result). y .mark) (d .2)) refl refl (rw (d .2))
+does-changed o {c = c} {q = q} (loading n rest i eb ep l k) x (inr d) =
+    rw (d .1) (side _ refl refl (stays refl refl (sym eb) refl (λ z. moved-one (q .side c) n rest i _ (rw ep at z) l)))
+does-changed o {c = c} {q = q} (completing n rest i eb ep l) x d =
+    rw d (side _ refl refl (completes n rest refl eb refl refl (λ z. length-append (q .side c .completed) (q .side c .moved) ∙ all-moved (q .side c) n rest i eb (rw ep at z) l)))
+
+-- Results that end no batch of core c, and those that do.
+
+none-left : (c : Core) (xs : List Result) → completedOf {A = ℕ} c xs [] ≡ []
+none-left c [] = refl
+none-left c (x ∷ xs) = refl
+
+passes : (c : Core) (x : Result) (xs : List Result) (bs : List ℕ) → markedOf c batchFailed x ≡ false → markedOf c indexStored x ≡ false
+    → completedOf c (x ∷ xs) bs ≡ completedOf c xs bs
+passes c x xs [] e k = sym (none-left c xs)
+passes c x xs (b ∷ bs) e k = rw (e, k)
+
+-- What core c has completed, and what the results to come complete of the batches that it has left.
+abbrev Owed : Core → Side → List Result → ℕ
+Owed c me xs = length (me .completed) + total (completedOf c xs (me .batches))
+
+same-owed : (c : Core) (a b : Side) (x : Result) (xs : List Result) → markedOf c batchFailed x ≡ false → markedOf c indexStored x ≡ false
+    → b .batches ≡ a .batches → b .completed ≡ a .completed → Owed c b xs ≡ Owed c a (x ∷ xs)
+same-owed c a b x xs e k p q = rw (p, q, passes c x xs (a .batches) e k)
+
+marked-not : (c : Core) (x : Result) (n : ℕ) → eqb (x .mark) n ≡ false → markedOf c n x ≡ false
+marked-not c x n e = rw e
+
+marked-other : (c d : Core) (x : Result) (n : ℕ) → who (x .did) ≡ some d → sameCore c d ≡ false → markedOf c n x ≡ false
+marked-other c d x n w e = rw (w, e) (go (marked n x))
+  where
+    go : (b : Bool) → (b && false) ≡ false
+    go true = refl
+    go false = refl
+
+marked-own : (c : Core) (x : Result) (n m : ℕ) → who (x .did) ≡ some c → x .mark ≡ m → markedOf c n x ≡ eqb m n
+marked-own c x n m w e = rw (w, e, same-self c) (go (eqb m n))
+  where
+    go : (b : Bool) → (b && true) ≡ b
+    go true = refl
+    go false = refl
+
+mine-owed : (c : Core) (a b : Side) (x : Result) → Sound a → who (x .did) ≡ some c → Mine a b (x .mark)
+    → Sound b × ((xs : List Result) → Owed c b xs ≡ Owed c a (x ∷ xs))
+unfolding total
+mine-owed c a b x s w (stays e k p q f) = (f s, λ xs. same-owed c a b x xs (marked-not c x batchFailed e) (marked-not c x indexStored k) p q)
+mine-owed c a b x s w (fails n rest e p q z ph) =
+    (rw ph tt, λ xs. rw (p, q, z, marked-own c x batchFailed batchFailed w e))
+mine-owed c a b x s w (completes n rest e p q ph f) =
+    (rw ph tt, λ xs. rw (p, q, marked-own c x batchFailed indexStored w e, marked-own c x indexStored indexStored w e) (omega (arith, f s)))
+
+changed-owed : (c d : Core) (q : Queue) (x : Result) → Sound (q .side c) → Changed q d x
+    → Sound (x .queue .side c) × ((xs : List Result) → Owed c (x .queue .side c) xs ≡ Owed c (q .side c) (x ∷ xs))
+changed-owed c d q x s (nothing z e k) =
+    (rw z s, λ xs. same-owed c (q .side c) (x .queue .side c) x xs (marked-not c x batchFailed e) (marked-not c x indexStored k) (rw z) (rw z))
+changed-owed c d q x s (side me z w m) = go (sameCore d c) refl
+  where
+    flip : (c d : Core) → sameCore d c ≡ false → sameCore c d ≡ false
+    flip core0 core0 e = e
+    flip core0 core1 e = refl
+    flip core1 core0 e = refl
+    flip core1 core1 e = e
+
+    go : (b : Bool) → sameCore d c ≡ b → Sound (x .queue .side c) × ((xs : List Result) → Owed c (x .queue .side c) xs ≡ Owed c (q .side c) (x ∷ xs))
+    go true e =
+        let ec : d ≡ c = same-true d c e in
+        let at : x .queue .side c ≡ me = ap (λ (f : Core → Side). f c) z ∙ ap (λ (b : Bool). cond b me (q .side c)) e in
+        rw at (mine-owed c (q .side c) me x s (w ∙ ap some ec) (rw ec at m))
+    go false e =
+        let at : x .queue .side c ≡ q .side c = ap (λ (f : Core → Side). f c) z ∙ ap (λ (b : Bool). cond b me (q .side c)) e in
+        let apart = flip c d e in
+        (rw at s, λ xs. rw at (same-owed c (q .side c) (q .side c) x xs (marked-other c d x batchFailed w apart) (marked-other c d x indexStored w apart) refl refl))
+
+entered-changed : (g : Shape) (s : State) (age : ℕ) (c : Option Core) (h : Bool) (x : Result) → Entered g s age c h x → (d : Core) × Changed (s .queue) d x
+entered-changed g s age none h x d = (core0, stayed (s .queue) core0 x noSuchCore (ap (λ (y : Result). y .mark) d) refl refl (rw d))
+entered-changed g s age (some c) true x d = (c, stayed (s .queue) c x isHalted (ap (λ (y : Result). y .mark) d) refl refl (rw d))
+entered-changed g s age (some c) false x d = (c, does-changed (g .orders) (planned g theRing c (s .queue) (s .trace) age) x d)
+
+run-owed : {g : Shape} {s z : State} {es : List Entry} {xs : List Result} → (c : Core) → Sound (s .queue .side c) → Runs g s es xs z
+    → length (z .queue .side c .completed) ≡ Owed c (s .queue .side c) xs
+unfolding total
+run-owed {s = s} c h stop = omega arith
+run-owed {g} c h (move {s = s} {e = e} {x = x} {xs = xs} a p) =
+    let k = entered-changed g s (e .age) (coreOf (e .core)) (s .halted) x a in
+    let z = changed-owed c (k .0) (s .queue) x h (k .1) in
+    run-owed c (z .0) p ∙ z .1 xs
+
+-- The bytes of a run's completed pushes, and of its completed pops, are as many as the sizes of the completed batches add up to.
+pub pushed-bytes : (f : List ℕ) {z : State} {es : List Entry} {xs : List Result} → Runs (shapeOf f) (fresh f) es xs z
+    → length (z .queue .side core0 .completed) ≡ total (completedOf core0 xs (pushSizes f))
+pushed-bytes f p = run-owed core0 tt p ∙ omega arith
+
+pub popped-bytes : (f : List ℕ) {z : State} {es : List Entry} {xs : List Result} → Runs (shapeOf f) (fresh f) es xs z
+    → length (z .queue .side core1 .completed) ≡ total (completedOf core1 xs (popSizes f))
+popped-bytes f p = run-owed core1 tt p ∙ omega arith
