@@ -1,18 +1,18 @@
 -- Laws of the table of codes: the code is k exactly when row k applies and no earlier row does, and what each row says.
 use mathlib.Core.Path.{_≡_, refl, sym, ap, _∙_}
-use mathlib.Core.Logic.{_↔_, _⊎_, _≢_, inl, inr}
+use mathlib.Core.Logic.{_↔_, _⊎_, inl, inr}
 use mathlib.Core.Bool.{Bool, true, false, cond, _||_, not}
 use mathlib.Core.List.{List, [], _∷_, _++_}
-use Prim.Native.Nat.{ℕ, zero, suc, _+_, _*_, _-_, _/_, _%_, _≤_, _<_}
+use Prim.Native.Nat.{ℕ, _-_, _%_, _≤_, _<_}
 use native.Mathlib.Omega.{arith}
 use native.Mathlib.Decide.{decLe}
 use lib.Dec.{eqb, ltb}
 use lib.ListN.{length}
-use borrow.Author.Tests.{ltb-true, ltb-false, lt-ltb, le-ltb, eqb-true, eqb-false, eq-eqb, ne-eqb, not-true}
-use Rattle.order.proofs.Trace.{clash, cond-elim, or-right}
+use borrow.Author.Tests.{ltb-true, lt-ltb, eqb-true, eqb-false, eq-eqb, ne-eqb, not-true}
+use Rattle.order.proofs.Trace.{clash, cond-elim}
 use Rattle.model.specs.Limits.{mostSlots, leastModulus, mostModulus, mostOrderBits, headerBytes, mostFileBytes, reportBytes}
 use Rattle.model.specs.File.{total, ringSize, modulusOf, orderBits, popSizes, sizesEnd, scheduleAt, scheduleOf}
-use Rattle.model.specs.Codes.{Row, row, divides, fileTable, bufferTable, table, firstOf, applies, codeOf, Lawful}
+use Rattle.model.specs.Codes.{Row, divides, fileTable, bufferTable, table, firstOf, applies, codeOf, Lawful}
 
 -- Rows whose codes rise, from above n.
 abbrev pub Rising : ℕ → List Row → Type 0
@@ -92,6 +92,16 @@ first-append xs ys = go 0 xs
             → cond (x .applies) (x .code) (firstOf (xs ++ ys)) ≡ firstOf ys
         pick true k z ih = let l = h .0 in absurd (omega arith)
         pick false k z ih = rw k (ih z)
+
+-- Where no row applies, none of the first rows does.
+pub first-front : (n : ℕ) (xs ys : List Row) → Rising n xs → firstOf (xs ++ ys) ≡ 0 → firstOf xs ≡ 0
+first-front n [] ys h e = refl
+first-front n (x ∷ xs) ys h e = go (x .applies) refl e (first-front (x .code) xs ys (h .1))
+  where
+    go : (b : Bool) → x .applies ≡ b → cond b (x .code) (firstOf (xs ++ ys)) ≡ 0 → (firstOf (xs ++ ys) ≡ 0 → firstOf xs ≡ 0)
+        → cond (x .applies) (x .code) (firstOf xs) ≡ 0
+    go true k z ih = let l = h .0 in absurd (omega arith)
+    go false k z ih = rw k (ih z)
 
 -- CODE k EXACTLY when row k applies and no earlier row does.
 pub code-exactly : (f : List ℕ) (marks out report k : ℕ) → 0 < k

@@ -1,11 +1,11 @@
 -- Every run makes a well-formed trace: each load reads a store of its place, and each index is stored by its own core.
 use mathlib.Core.Path.{_≡_, refl}
-use mathlib.Core.Logic.{_⊎_, inl, inr}
+use mathlib.Core.Logic.{inl, inr}
 use mathlib.Core.Bool.{Bool, true, false}
 use mathlib.Core.Option.{Option, none, some}
-use mathlib.Core.List.{List, [], _∷_}
+use mathlib.Core.List.{List}
 use Prim.Native.Nat.{ℕ}
-use Rattle.order.specs.Trace.{Core, other, Ring, Place, index, slot, Act, load, Trace, latest}
+use Rattle.order.specs.Trace.{Core, other, Ring, index, slot, Trace}
 use Rattle.order.specs.Order.{Orders}
 use Rattle.order.proofs.Trace.{StoreOf, stores-are, latest-is}
 use Rattle.order.proofs.Chain.{Fits, Formed}
@@ -13,7 +13,7 @@ use Rattle.order.proofs.Record.{AccessOf}
 use Rattle.model.specs.File.{Entry}
 use Rattle.model.specs.Queue.{Shape, Queue}
 use Rattle.model.specs.Plan.{Plan, refuse, perform, unless-hidden, unless-race, slotOf, plan}
-use Rattle.model.specs.Run.{Result, Does, State, after, coreOf, theRing, Entered, Step, Runs, stop, move}
+use Rattle.model.specs.Run.{Result, Does, State, coreOf, theRing, Entered, Step, Runs, stop, move}
 use Rattle.model.proofs.Plan.{Planned, no-batch, no-age, past, owning, failing, keeping, storing, loading, completing, planned}
 
 -- What a plan's action is, as far as the memory rules ask.

@@ -1,26 +1,25 @@
 -- A run halts exactly where its trace has a data race, the pair that it reports is one, and once halted it stays so.
-use mathlib.Core.Path.{_≡_, refl, sym, ap, _∙_}
+use mathlib.Core.Path.{_≡_, refl}
 use mathlib.Core.Logic.{_↔_, _⊎_, inl, inr}
-use mathlib.Core.Bool.{Bool, true, false, cond, _||_}
+use mathlib.Core.Bool.{Bool, true, false}
 use mathlib.Core.Option.{Option, none, some}
 use mathlib.Core.List.{List, [], _∷_}
 use Prim.Native.Nat.{ℕ, suc, _≤_, _<_}
 use native.Mathlib.Omega.{arith}
 use lib.Dec.{eqb}
-use borrow.Author.Tests.{ne-eqb, eq-eqb}
-use Rattle.order.specs.Trace.{Core, other, Ring, Place, index, slot, Act, idle, load, store, Trace, next}
+use borrow.Author.Tests.{ne-eqb}
+use Rattle.order.specs.Trace.{Core, other, Ring, slot, Trace, next}
 use Rattle.order.specs.Order.{Orders}
 use Rattle.order.specs.Race.{RacesWith, DataRace}
 use Rattle.order.proofs.Trace.{clash}
-use Rattle.order.proofs.Chain.{Fits, Formed}
-use Rattle.order.proofs.Record.{AccessOf}
+use Rattle.order.proofs.Chain.{Formed}
 use Rattle.order.proofs.Races.{Ordered, ordered-none, Calm, ordered-more, race-is-data-race, data-race-stays, ordered-no-race, access-of, calm-access, calm-load, calm-store, calm-idle}
 use Rattle.model.specs.File.{Entry}
 use Rattle.model.specs.Marks.{raceFound, noSuchCore, isHalted, storeHidden}
 use Rattle.model.specs.Queue.{Shape, Queue}
 use Rattle.model.specs.Plan.{Plan, refuse, perform, unless-hidden, unless-race, plan}
 use Rattle.model.specs.Run.{Result, refused, Does, State, after, coreOf, theRing, Entered, Step, Runs, stop, move, shapeOf, fresh}
-use Rattle.model.specs.Report.{marked, raceFrom, partnerOf}
+use Rattle.model.specs.Report.{raceFrom, partnerOf}
 use Rattle.model.proofs.Plan.{Planned, no-batch, no-age, past, owning, failing, keeping, storing, loading, completing, planned}
 use Rattle.model.proofs.Formed.{PlanFits, plan-fits, step-fits}
 use Rattle.model.proofs.Refused.{PlanMarks, plan-marks}

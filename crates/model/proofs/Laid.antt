@@ -1,25 +1,19 @@
 -- A lawful file: its numbers are in their ranges, and its parts lie where the layout says, one after the other, with nothing between them.
 use mathlib.Core.Path.{_≡_, refl, sym, ap, _∙_}
-use mathlib.Core.Logic.{_↔_}
-use mathlib.Core.Bool.{Bool, true, false, cond, _||_, not}
+use mathlib.Core.Bool.{Bool, true, false, cond, not}
 use mathlib.Core.List.{List, [], _∷_, _++_}
-use Prim.Native.Nat.{ℕ, zero, suc, _+_, _*_, _-_, _/_, _%_, _≤_, _<_, min}
+use Prim.Native.Nat.{ℕ, zero, suc, _+_, _*_, _-_, _/_, _%_, _≤_, _<_}
 use native.Mathlib.Omega.{arith}
-use native.Mathlib.Nat.{div-add-mod, mod-lt}
-use native.Mathlib.Decide.{decLe}
+use native.Mathlib.Nat.{div-add-mod}
 use lib.Dec.{eqb, ltb}
-use lib.ListN.{length, getD, take, drop, take-append-drop, length-take, length-drop}
+use lib.ListN.{length, getD, take, drop, take-append-drop, length-drop}
 use lib.Seq.{drop-cons, drop-drop, length-take-le, getD-drop}
 use borrow.Author.Tests.{ltb-false, eqb-true, eqb-false, le-ltb, not-false}
-use Rattle.order.proofs.Trace.{clash}
+use Rattle.order.proofs.Trace.{clash, or-none}
 use Rattle.model.specs.Limits.{mostSlots, leastModulus, mostModulus, mostOrderBits, headerBytes, mostFileBytes, reportBytes}
 use Rattle.model.specs.File.{byteAt, total, ringSize, modulusOf, orderBits, pushCount, popCount, pushSizes, popSizes, sizesEnd, pushBytes, scheduleAt, Entry, pairs, scheduleOf}
-use Rattle.model.specs.Codes.{Row, divides, fileTable, bufferTable, table, firstOf, applies, codeOf, Lawful}
-use Rattle.model.proofs.Codes.{Rising, file-rising, first-append, file-zero}
-
-or-false : (x y : Bool) → (x || y) ≡ false → (x ≡ false) × (y ≡ false)
-or-false true y e = clash (cc)
-or-false false y e = (refl, e)
+use Rattle.model.specs.Codes.{divides, fileTable, bufferTable, table, firstOf, codeOf, Lawful}
+use Rattle.model.proofs.Codes.{file-rising, first-append, first-front, file-zero}
 
 -- THE RANGES that codes 1 to 8 leave.
 pub record Ranges (f : List ℕ) : Type 0 where
@@ -49,10 +43,10 @@ pub lawful-ranges : (f : List ℕ) → Lawful f → Ranges f
 unfolding fileTable
 lawful-ranges f h =
     let z = file-zero f .0 h in
-    let r3 = or-false (eqb (ringSize f) 0) (ltb mostSlots (ringSize f)) (z 3) in
-    let r4 = or-false (ltb (modulusOf f) leastModulus) (ltb mostModulus (modulusOf f)) (z 4) in
-    let r5 = or-false (not (divides (ringSize f) (modulusOf f))) (eqb (modulusOf f) (ringSize f)) (z 5) in
-    let r7 = or-false (ltb (length f) (sizesEnd f)) (ltb (length f) (scheduleAt f)) (z 7) in
+    let r3 = or-none (eqb (ringSize f) 0) (ltb mostSlots (ringSize f)) (z 3) in
+    let r4 = or-none (ltb (modulusOf f) leastModulus) (ltb mostModulus (modulusOf f)) (z 4) in
+    let r5 = or-none (not (divides (ringSize f) (modulusOf f))) (eqb (modulusOf f) (ringSize f)) (z 5) in
+    let r7 = or-none (ltb (length f) (sizesEnd f)) (ltb (length f) (scheduleAt f)) (z 7) in
     let m1 : 1 ≤ ringSize f = omega (arith, eqb-false (ringSize f) 0 (r3 .0)) in
     let M2 : 2 ≤ modulusOf f = ltb-false (modulusOf f) leastModulus (r4 .0) in
     let d : modulusOf f % ringSize f ≡ 0 = eqb-true (modulusOf f % ringSize f) 0 (not-false (divides (ringSize f) (modulusOf f)) (r5 .0)) in
@@ -78,6 +72,22 @@ unfolding codeOf table bufferTable
 lawful-code f marks out report h a b c =
     first-append (fileTable f) (bufferTable f marks out report) (file-rising f) h
     ∙ rw (le-ltb marks (length (scheduleOf f)) a, le-ltb out (total (popSizes f)) b, le-ltb report reportBytes c)
+
+-- Code 0: a lawful file and buffers long enough.
+pub code-means : (f : List ℕ) (marks out report : ℕ) → codeOf f marks out report ≡ 0
+    → Lawful f × (length (scheduleOf f) ≤ marks) × (total (popSizes f) ≤ out) × (reportBytes ≤ report)
+unfolding codeOf table bufferTable
+code-means f marks out report e =
+    let h : Lawful f = first-front 0 (fileTable f) (bufferTable f marks out report) (file-rising f) e in
+    let k : firstOf (bufferTable f marks out report) ≡ 0 = sym (first-append (fileTable f) (bufferTable f marks out report) (file-rising f) h) ∙ e in
+    let z = go (ltb marks (length (scheduleOf f))) (ltb out (total (popSizes f))) (ltb report reportBytes) k in
+    (h, ltb-false marks (length (scheduleOf f)) (z .0), ltb-false out (total (popSizes f)) (z .1), ltb-false report reportBytes (z .2))
+  where
+    go : (x y z : Bool) → cond x 9 (cond y 10 (cond z 11 0)) ≡ zero → (x ≡ false) × (y ≡ false) × (z ≡ false)
+    go true y z e = absurd (omega arith)
+    go false true z e = absurd (omega arith)
+    go false false true e = absurd (omega arith)
+    go false false false e = (refl, refl, refl)
 
 -- Entries and their bytes
 

@@ -1,4 +1,5 @@
 pub mod Codes
+pub mod Total
 pub mod Laid
 pub mod Plan
 pub mod Formed

@@ -1,24 +1,23 @@
 -- Axiom 2 on every run: each load that a run performs reads a store that it may read; an own load and a data load may read no other.
 use mathlib.Core.Path.{_≡_, refl, sym, ap, _∙_}
-use mathlib.Core.Logic.{_↔_, _⊎_, inl, inr}
+use mathlib.Core.Logic.{_↔_, inl, inr}
 use mathlib.Core.Bool.{Bool, true, false}
 use mathlib.Core.Option.{Option, none, some}
 use mathlib.Core.List.{List, [], _∷_, _++_}
 use Prim.Native.Nat.{ℕ, _+_, _<_}
 use native.Mathlib.Nat.{mod-lt}
 use lib.ListN.{getD}
-use Rattle.order.specs.Trace.{Core, other, Ring, Place, index, slot, Act, idle, load, store, Trace, latest, valueOf}
-use Rattle.order.specs.Order.{Orders}
+use Rattle.order.specs.Trace.{Core, other, Ring, Place, index, slot, idle, load, store, Trace, latest, valueOf}
 use Rattle.order.specs.Hidden.{Hidden, MayRead}
 use Rattle.order.specs.Race.{RacesWith}
-use Rattle.order.proofs.Trace.{clash, other-ne, StoreOf, stores-are, latest-is}
+use Rattle.order.proofs.Trace.{clash, other-ne, StoreOf, stores-are}
 use Rattle.order.proofs.Chain.{Formed}
 use Rattle.order.proofs.Record.{AccessOf}
 use Rattle.order.proofs.Axiom2.{own-load-reads-latest, data-load-reads-latest}
 use Rattle.model.specs.File.{Entry, ringSize}
 use Rattle.model.specs.Marks.{raceFound}
 use Rattle.model.specs.Queue.{Shape, Queue}
-use Rattle.model.specs.Plan.{Plan, slotOf, plan}
+use Rattle.model.specs.Plan.{Plan, slotOf}
 use Rattle.model.specs.Run.{Result, Does, State, coreOf, theRing, Entered, Step, Runs, shapeOf, fresh}
 use Rattle.model.proofs.Plan.{Planned, no-batch, no-age, past, owning, failing, keeping, storing, loading, completing, planned}
 use Rattle.model.proofs.Formed.{run-formed}

@@ -12,8 +12,8 @@ use Rattle.order.specs.Hidden.{Hidden, Overwritten}
 use Rattle.order.specs.Race.{RacesWith}
 use Rattle.order.specs.computed.Record.{know}
 use Rattle.order.proofs.Trace.{StoreOf}
-use Rattle.order.proofs.Chain.{Fits, Formed, acyclic, index-owner}
-use Rattle.order.proofs.Record.{AccessOf, record-agrees, hidden-by-record, race-by-record}
+use Rattle.order.proofs.Chain.{Formed, acyclic, index-owner}
+use Rattle.order.proofs.Record.{record-agrees, hidden-by-record, race-by-record}
 use Rattle.order.proofs.Stable.{stable, refused-changes-nothing}
 use Rattle.order.proofs.Axiom2.{hidden-is-overwritten}
 use Rattle.order.proofs.Races.{access-is}

@@ -1,6 +1,6 @@
 -- What a plan can be: one of nine, each with what is known where it is made. A fact about all plans is proved by these nine cases.
 use mathlib.Core.Path.{_≡_, refl}
-use mathlib.Core.Bool.{Bool, true, false, cond}
+use mathlib.Core.Bool.{true, false, cond}
 use mathlib.Core.Option.{Option, none, some}
 use mathlib.Core.List.{List, [], _∷_}
 use Prim.Native.Nat.{ℕ, zero, suc, _≤_, _<_}
@@ -10,8 +10,8 @@ use borrow.Author.Tests.{ltb-true, ltb-false}
 use Rattle.order.specs.Trace.{Core, other, Ring, index, Trace, stores, valueOf}
 use Rattle.order.proofs.Trace.{cond-elim}
 use Rattle.model.specs.Marks.{noBatchLeft, noAgeHere, pastInitial}
-use Rattle.model.specs.Queue.{Shape, Phase, start, reload, moving, Side, Queue, pushes, isShort}
-use Rattle.model.specs.Plan.{Plan, refuse, ageless, ownLoad, failBatch, keepBatch, foreignLoad, foreignLoadOf, dataStore, dataLoad, dataAccess, slotOf, indexStore, inBatch, ofBatches, plan}
+use Rattle.model.specs.Queue.{Shape, Phase, start, reload, moving, Queue, pushes, isShort}
+use Rattle.model.specs.Plan.{Plan, refuse, ageless, ownLoad, failBatch, keepBatch, foreignLoadOf, dataStore, dataLoad, dataAccess, slotOf, indexStore, inBatch, ofBatches, plan}
 
 pub data Planned (g : Shape) (r : Ring) (c : Core) (q : Queue) (t : Trace) (age : ℕ) : Plan → Type 0 where
   no-batch : q .side c .batches ≡ [] → Planned g r c q t age (refuse noBatchLeft)

@@ -1,18 +1,18 @@
 -- A refused entry leaves the state as it was and adds no action.
-use mathlib.Core.Path.{_≡_, refl, sym, ap, _∙_}
-use mathlib.Core.Logic.{_⊎_, inl, inr}
-use mathlib.Core.Bool.{Bool, true, false, _||_}
+use mathlib.Core.Path.{_≡_, refl, ap}
+use mathlib.Core.Logic.{inl, inr}
+use mathlib.Core.Bool.{Bool, true, false}
 use mathlib.Core.Option.{Option, none, some}
-use mathlib.Core.List.{List, [], _∷_}
+use mathlib.Core.List.{_∷_}
 use Prim.Native.Nat.{ℕ, _≤_, _<_}
 use native.Mathlib.Omega.{arith}
 use native.Mathlib.Decide.{decLe}
 use lib.Dec.{eqb}
 use lib.ListN.{length}
 use borrow.Author.Tests.{ne-eqb}
-use Rattle.order.specs.Trace.{Core, Ring, Act, idle, Trace, act}
+use Rattle.order.specs.Trace.{Core, Ring, idle, Trace, act}
 use Rattle.order.specs.Order.{Orders}
-use Rattle.order.proofs.Trace.{clash, act-next, act-old, act-out}
+use Rattle.order.proofs.Trace.{or-false, act-old, act-out}
 use Rattle.model.specs.File.{Entry}
 use Rattle.model.specs.Marks.{raceFound, noSuchCore}
 use Rattle.model.specs.Queue.{Shape, Queue}
@@ -57,10 +57,6 @@ entered-refused g s age (some c) true x d l = rw d
 entered-refused g s age (some c) false x d l =
     does-refused (g .orders) c (s .queue) (s .trace) (plan g theRing c (s .queue) (s .trace) age) x
     (plan-marks g theRing c (s .queue) (s .trace) age) d l
-
-or-false : (b : Bool) → (b || false) ≡ b
-or-false true = refl
-or-false false = refl
 
 idle-adds-nothing : (t : Trace) (p : ℕ) → act (idle ∷ t) p ≡ act t p
 idle-adds-nothing t p = elim (decLe p (length t)) [

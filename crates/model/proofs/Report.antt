@@ -1,24 +1,23 @@
 -- Laws of the report's numbers: every entry is performed or refused, a data load is a byte of out, and the sizes of the completed batches add
 -- up to the bytes of the completed batches.
 use mathlib.Core.Path.{_≡_, refl, sym, ap, _∙_}
-use mathlib.Core.Logic.{_⊎_, inl, inr}
-use mathlib.Core.Bool.{Bool, true, false, cond, _&&_, not}
+use mathlib.Core.Logic.{inl, inr}
+use mathlib.Core.Bool.{Bool, true, false, cond, not}
 use mathlib.Core.Option.{Option, none, some}
 use mathlib.Core.List.{List, [], _∷_, _++_}
-use Prim.Native.Nat.{ℕ, zero, suc, _+_, _≤_, _<_}
+use Prim.Native.Nat.{ℕ, suc, _+_, _≤_, _<_}
 use native.Mathlib.Omega.{arith}
-use lib.Dec.{eqb, leb}
+use lib.Dec.{eqb}
 use lib.ListN.{length, length-append}
-use borrow.Author.Tests.{ne-eqb}
-use Rattle.order.specs.Trace.{Core, core0, core1, sameCore, Ring, Act, idle, Trace, who}
+use Rattle.order.specs.Trace.{Core, core0, core1, sameCore, Ring, Trace, who}
 use Rattle.order.specs.Order.{Orders}
-use Rattle.order.proofs.Trace.{clash, same-self, same-true, same-false}
+use Rattle.order.proofs.Trace.{and-false, and-with, same-self, same-true}
 use Rattle.model.specs.File.{Entry, total, pushSizes, popSizes}
-use Rattle.model.specs.Marks.{raceFound, batchFailed, dataLoaded, indexStored, noSuchCore, isHalted, storeHidden}
+use Rattle.model.specs.Marks.{batchFailed, dataLoaded, indexStored, noSuchCore, isHalted}
 use Rattle.model.specs.Queue.{Shape, Phase, start, reload, moving, Side, Queue, withSide, isShort}
-use Rattle.model.specs.Plan.{Plan, plan}
-use Rattle.model.specs.Run.{Result, refused, Does, State, after, coreOf, theRing, Entered, Step, Runs, stop, move, shapeOf, fresh}
-use Rattle.model.specs.Report.{one, count, marked, entryPerformed, entryRefused, isCore, markedOf, completedOf}
+use Rattle.model.specs.Plan.{Plan}
+use Rattle.model.specs.Run.{Result, Does, State, coreOf, theRing, Entered, Runs, stop, move, shapeOf, fresh}
+use Rattle.model.specs.Report.{one, count, marked, entryPerformed, entryRefused, markedOf, completedOf}
 use Rattle.model.proofs.Plan.{Planned, no-batch, no-age, past, owning, failing, keeping, storing, loading, completing, planned}
 
 -- PERFORMED AND REFUSED are together every entry.
@@ -148,18 +147,10 @@ marked-not : (c : Core) (x : Result) (n : ℕ) → eqb (x .mark) n ≡ false →
 marked-not c x n e = rw e
 
 marked-other : (c d : Core) (x : Result) (n : ℕ) → who (x .did) ≡ some d → sameCore c d ≡ false → markedOf c n x ≡ false
-marked-other c d x n w e = rw (w, e) (go (marked n x))
-  where
-    go : (b : Bool) → (b && false) ≡ false
-    go true = refl
-    go false = refl
+marked-other c d x n w e = rw (w, e) (and-false (marked n x))
 
 marked-own : (c : Core) (x : Result) (n m : ℕ) → who (x .did) ≡ some c → x .mark ≡ m → markedOf c n x ≡ eqb m n
-marked-own c x n m w e = rw (w, e, same-self c) (go (eqb m n))
-  where
-    go : (b : Bool) → (b && true) ≡ b
-    go true = refl
-    go false = refl
+marked-own c x n m w e = rw (w, e, same-self c) (and-with (eqb m n))
 
 mine-owed : (c : Core) (a b : Side) (x : Result) → Sound a → who (x .did) ≡ some c → Mine a b (x .mark)
     → Sound b × ((xs : List Result) → Owed c b xs ≡ Owed c a (x ∷ xs))

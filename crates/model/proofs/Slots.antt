@@ -1,23 +1,23 @@
 -- While the machine has not halted, each slot holds the byte of its latest store.
 use mathlib.Core.Path.{_≡_, refl, sym, ap, _∙_}
-use mathlib.Core.Logic.{_⊎_, inl, inr}
-use mathlib.Core.Bool.{Bool, true, false, cond, _&&_, _||_}
+use mathlib.Core.Logic.{inl, inr}
+use mathlib.Core.Bool.{Bool, true, false}
 use mathlib.Core.Option.{Option, none, some}
-use mathlib.Core.List.{List, [], _∷_}
-use Prim.Native.Nat.{ℕ, suc, _+_, _%_, _≤_, _<_}
+use mathlib.Core.List.{List, _∷_}
+use Prim.Native.Nat.{ℕ, _+_, _≤_, _<_}
 use native.Mathlib.Omega.{arith}
 use native.Mathlib.Nat.{mod-lt}
 use lib.Dec.{eqb}
-use lib.ListN.{length, getD, set, length-set, replicate, length-replicate, getD-replicate}
+use lib.ListN.{length, getD, set, length-set, length-replicate, getD-replicate}
 use lib.Seq.{getD-set-same, getD-set-other}
 use borrow.Author.Tests.{eq-eqb, eqb-true, eqb-false}
-use Rattle.order.specs.Trace.{Core, other, Ring, Place, index, slot, samePlace, Act, idle, load, store, Trace, act, next, storesTo, stores, latest, stored, valueOf}
+use Rattle.order.specs.Trace.{Core, Ring, Place, slot, samePlace, Act, store, Trace, storesTo, latest, stored, valueOf}
 use Rattle.order.specs.Order.{Orders}
-use Rattle.order.proofs.Trace.{clash, cond-elim, act-next, act-old, StoreOf, store-in, latest-is}
+use Rattle.order.proofs.Trace.{clash, or-none, act-next, act-old, StoreOf, store-in, latest-is}
 use Rattle.model.specs.File.{Entry, ringSize}
 use Rattle.model.specs.Marks.{raceFound}
 use Rattle.model.specs.Queue.{Shape, Queue}
-use Rattle.model.specs.Plan.{Plan, slotOf, plan}
+use Rattle.model.specs.Plan.{Plan, slotOf}
 use Rattle.model.specs.Run.{Result, Does, State, after, coreOf, theRing, Entered, Step, Runs, stop, move, shapeOf, fresh}
 use Rattle.model.proofs.Plan.{Planned, no-batch, no-age, past, owning, failing, keeping, storing, loading, completing, planned}
 
@@ -97,14 +97,10 @@ entered-keeps g s age (some c) false x pos len d =
 abbrev Hold : Shape → State → Type 0
 Hold g s = (length (s .queue .slots) ≡ g .size) × (s .halted ≡ false → Agree g theRing (s .queue .slots) (s .trace))
 
-or-no : (x y : Bool) → (x || y) ≡ false → (x ≡ false) × (y ≡ false)
-or-no true y e = clash (cc)
-or-no false y e = (refl, e)
-
 step-hold : (g : Shape) (s : State) (e : Entry) (x : Result) → 0 < g .size → Step g s e x → Hold g s → Hold g (after s x)
 step-hold g s e x pos d h =
     let k = entered-keeps g s (e .age) (coreOf (e .core)) (s .halted) x pos (h .0) d in
-    (k .0 ∙ h .0, λ m. let z = or-no (s .halted) (eqb (x .mark) raceFound) m in k .1 (z .1) (h .1 (z .0)))
+    (k .0 ∙ h .0, λ m. let z = or-none (s .halted) (eqb (x .mark) raceFound) m in k .1 (z .1) (h .1 (z .0)))
 
 run-hold : {g : Shape} {s z : State} {es : List Entry} {xs : List Result} → 0 < g .size → Hold g s → Runs g s es xs z → Hold g z
 run-hold pos h stop = h

@@ -1,16 +1,16 @@
 -- Some result: the computed machine gives one that the definition allows, for every file and all buffers.
-use mathlib.Core.Path.{_≡_, refl, sym, ap, _∙_}
-use mathlib.Core.Logic.{_⊎_, inl, inr}
-use mathlib.Core.Bool.{Bool, true, false, cond}
+use mathlib.Core.Path.{refl}
+use mathlib.Core.Logic.{inl, inr}
+use mathlib.Core.Bool.{Bool, true, false}
 use mathlib.Core.Option.{Option, none, some}
 use mathlib.Core.List.{List, [], _∷_, _++_}
-use Prim.Native.Nat.{ℕ, _≤_, _<_}
+use Prim.Native.Nat.{ℕ}
 use native.Mathlib.Omega.{arith}
 use native.Mathlib.Decide.{decLe}
 use lib.Dec.{ltb}
 use lib.ListN.{length, drop}
 use borrow.Author.Tests.{ltb-true, ltb-false}
-use Rattle.order.specs.Trace.{Core, other, Ring, Place, index, slot, Act, load, Trace, stores, isStore}
+use Rattle.order.specs.Trace.{Core, other, Ring, index, slot, Act, load, Trace, stores, isStore}
 use Rattle.order.specs.Order.{Orders}
 use Rattle.order.specs.computed.Record.{know, newer, rival}
 use Rattle.order.proofs.Trace.{clash, cond-elim, StoreOf}
@@ -23,9 +23,9 @@ use Rattle.model.specs.Codes.{codeOf}
 use Rattle.model.specs.Marks.{storeHidden}
 use Rattle.model.specs.Queue.{Shape, Queue}
 use Rattle.model.specs.Plan.{Plan, refuse, perform, unless-hidden, unless-race, plan}
-use Rattle.model.specs.Run.{Result, refused, performed, raced, Does, State, after, coreOf, theRing, Entered, Step, Runs, stop, move, shapeOf, fresh}
+use Rattle.model.specs.Run.{refused, performed, raced, Does, State, after, coreOf, theRing, Entered, Step, Runs, stop, move, shapeOf, fresh}
 use Rattle.model.specs.Report.{numbersOf, bytesOf}
-use Rattle.model.specs.Outcome.{marksOf, Ran, Outcome}
+use Rattle.model.specs.Outcome.{marksOf, Outcome}
 use Rattle.model.specs.computed.Machine.{decided, entered, step, results, ends}
 use Rattle.model.proofs.Formed.{PlanFits, plan-fits, step-fits}
 

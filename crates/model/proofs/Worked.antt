@@ -1,21 +1,21 @@
 -- R1 to R9: computed once for the whole table, and so of every outcome that the definition allows.
 use mathlib.Core.Path.{_≡_, refl, sym, ap, _∙_}
-use mathlib.Core.Bool.{Bool, true, false, _&&_}
+use mathlib.Core.Bool.{Bool, true, _&&_}
 use mathlib.Core.Option.{Option, none, some}
 use mathlib.Core.List.{List, [], _∷_, _++_, map}
-use Prim.Native.Nat.{ℕ, suc, _+_, _*_, _≤_, _<_}
+use Prim.Native.Nat.{ℕ, suc, _+_, _*_, _<_}
 use native.Mathlib.Omega.{arith}
 use lib.Dec.{ltb}
-use lib.ListN.{length, getD, drop, length-map, length-append, List·getD-append}
+use lib.ListN.{length, drop, length-map, List·getD-append}
 use borrow.Author.Tests.{ltb-true}
-use Rattle.order.proofs.Trace.{clash, and-true}
+use Rattle.order.proofs.Trace.{and-true}
 use Rattle.model.specs.Limits.{reportNumbers, reportBytes}
-use Rattle.model.specs.File.{number4, byteAt, total, pushSizes, popSizes, pushBytes, scheduleAt, scheduleOf, Entry}
+use Rattle.model.specs.File.{number4, total, pushSizes, popSizes, pushBytes, scheduleAt, scheduleOf, Entry}
 use Rattle.model.specs.Codes.{fileTable, firstOf, Lawful}
 use Rattle.model.specs.Queue.{Shape}
 use Rattle.model.specs.Run.{Result, State, Runs, stop, move, shapeOf, fresh}
-use Rattle.model.specs.Report.{numbersOf, le4, bytesOf}
-use Rattle.model.specs.Outcome.{marksOf, Ran, Outcome}
+use Rattle.model.specs.Report.{numbersOf, bytesOf}
+use Rattle.model.specs.Outcome.{marksOf}
 use Rattle.model.specs.Worked.{Stated, Worked, worked, Numbers, Bytes, Comes, AllCome}
 use Rattle.model.specs.computed.Machine.{results, ends}
 use Rattle.model.proofs.Laid.{lawful-code}

@@ -4,7 +4,7 @@ use mathlib.Core.List.{List, [], _∷_}
 use Prim.Native.Nat.{ℕ, _+_, _*_, _/_, _%_, _^_}
 use lib.Dec.{eqb}
 use lib.ListN.{getD, take, drop}
-use Rattle.order.specs.Trace.{Core, core0, core1}
+use Rattle.order.specs.Trace.{core0, core1}
 use Rattle.order.specs.Order.{Orders}
 use Rattle.model.specs.Limits.{headerBytes}
 

@@ -1,7 +1,7 @@
 -- The runs R1 to R9, worked by hand: each as the bytes of its file, its marks, and those numbers and bytes read that document 01 states.
 use mathlib.Core.Path.{_≡_}
 use mathlib.Core.Option.{Option, none, some}
-use mathlib.Core.List.{List, [], _∷_, _++_, map}
+use mathlib.Core.List.{List, [], _∷_, _++_}
 use Prim.Native.Nat.{ℕ, _*_, _≤_}
 use lib.ListN.{length, drop}
 use Rattle.model.specs.Limits.{reportBytes}

@@ -1,22 +1,22 @@
 -- Axiom 2: the hidden rule is the one of document 003; a load of one's own index, and a data load that does not race, may read the latest
 -- store alone.
 use mathlib.Core.Path.{_≡_, refl, sym, ap, _∙_, subst}
-use mathlib.Core.Logic.{_↔_, _⊎_, inl, inr}
-use mathlib.Core.Bool.{Bool, true, false, _||_}
-use mathlib.Core.Option.{Option, none, some}
-use mathlib.Core.List.{List, [], _∷_}
-use Prim.Native.Nat.{ℕ, suc, _≤_, _<_}
+use mathlib.Core.Logic.{_↔_, inl, inr}
+use mathlib.Core.Bool.{Bool, true, false}
+use mathlib.Core.Option.{some}
+use mathlib.Core.List.{_∷_}
+use Prim.Native.Nat.{ℕ, _≤_, _<_}
 use native.Mathlib.Omega.{arith}
 use native.Mathlib.Decide.{decLe}
 use lib.ListN.{length}
-use Rattle.order.specs.Trace.{Core, other, sameCore, Ring, Place, index, slot, Act, load, Trace, act, next, who, isStore, storesTo, latest}
+use Rattle.order.specs.Trace.{Core, other, sameCore, Ring, Place, index, slot, Act, load, Trace, act, next, who, storesTo, latest}
 use Rattle.order.specs.Order.{Orders, HappensBefore, initial, sequenced}
 use Rattle.order.specs.Hidden.{Hidden, MayRead, Overwritten}
 use Rattle.order.specs.Race.{RacesWith}
 use Rattle.order.specs.computed.Record.{know}
 use Rattle.order.proofs.Trace.{same-true, same-false, stores-accesses, storesTo-is, act-next, act-kept, StoreOf, store-in, latest-is, latest-top}
 use Rattle.order.proofs.Chain.{Formed, forward, index-owner}
-use Rattle.order.proofs.Record.{AccessOf, access-agrees}
+use Rattle.order.proofs.Record.{access-agrees}
 
 -- All stores of the place are core d's.
 abbrev pub OneWriter : Trace → Place → Core → Type 0

@@ -1,16 +1,15 @@
 -- What a chain of happens-before comes to where there are two cores; and axiom 1.
-use mathlib.Core.Path.{_≡_, refl, sym, ap, _∙_}
-use mathlib.Core.Logic.{_⊎_, inl, inr}
-use mathlib.Core.Bool.{Bool, true, false}
-use mathlib.Core.Option.{Option, none, some}
-use mathlib.Core.List.{List, [], _∷_}
-use Prim.Native.Nat.{ℕ, suc, _≤_, _<_}
+use mathlib.Core.Path.{_≡_, refl, ap, _∙_}
+use mathlib.Core.Logic.{inl, inr}
+use mathlib.Core.Bool.{true}
+use mathlib.Core.Option.{some}
+use mathlib.Core.List.{[], _∷_}
+use Prim.Native.Nat.{ℕ, _≤_, _<_}
 use native.Mathlib.Omega.{arith}
-use native.Mathlib.Decide.{decLe}
 use lib.ListN.{length}
 use Rattle.order.specs.Trace.{Core, other, Ring, Place, index, slot, Act, idle, load, store, Trace, act, who, storesTo}
 use Rattle.order.specs.Order.{Orders, HappensBefore, initial, sequenced, synchronised, chain}
-use Rattle.order.proofs.Trace.{clash, other-other, act-in, act-pos, At, newest, older, at, storesTo-is, StoreOf, store-in, store-at}
+use Rattle.order.proofs.Trace.{clash, other-other, act-pos, newest, older, at, storesTo-is, StoreOf, store-in, store-at}
 
 -- The traces that a machine makes: a load reads an earlier store of its place, or the initial one; an index is stored by its own core.
 abbrev pub Fits : Trace → Act → Type 0

@@ -1,20 +1,20 @@
 -- The two memory questions, computed from the record, have the answers of the relation.
-use mathlib.Core.Path.{_≡_, refl, sym, ap, _∙_}
+use mathlib.Core.Path.{_≡_, refl}
 use mathlib.Core.Logic.{_↔_, _⊎_, inl, inr, ⊎-elim}
-use mathlib.Core.Bool.{Bool, true, false, cond, _&&_, _||_}
+use mathlib.Core.Bool.{Bool, true, false, _&&_, _||_}
 use mathlib.Core.List.{List, [], _∷_}
-use Prim.Native.Nat.{ℕ, zero, suc, _≤_, _<_}
+use Prim.Native.Nat.{ℕ, suc, _≤_, _<_}
 use native.Mathlib.Omega.{arith}
-use mathlib.Core.Option.{Option, some}
+use mathlib.Core.Option.{some}
 use lib.ListN.{getElem?}
 use lib.Dec.{ltb, leb}
-use borrow.Author.Tests.{leb-true, le-leb, ltb-true, ltb-false, lt-ltb}
-use Rattle.order.specs.Trace.{Core, other, Ring, Place, index, slot, Act, Trace, act, next, who, isStore, storesTo, accesses, stores}
+use borrow.Author.Tests.{leb-true, le-leb, ltb-true, lt-ltb}
+use Rattle.order.specs.Trace.{Core, other, Ring, Place, index, slot, Act, Trace, act, next, isStore, storesTo, accesses, stores}
 use Rattle.order.specs.Order.{Orders}
 use Rattle.order.specs.Hidden.{Hidden}
 use Rattle.order.specs.Race.{RacesWith, Race}
 use Rattle.order.specs.computed.Record.{know, newer, rival}
-use Rattle.order.proofs.Trace.{clash, cond-elim, and-true, or-right, accesses-who, act-next, act-kept, At, newest, older, at, StoreOf, store-in, store-at, stores-are}
+use Rattle.order.proofs.Trace.{clash, cond-elim, and-true, or-right, accesses-who, act-next, act-kept, newest, older, at, StoreOf, store-at, stores-are}
 use Rattle.order.proofs.Chain.{Formed}
 use Rattle.order.proofs.Record.{hidden-by-record, AccessOf, race-by-record}
 

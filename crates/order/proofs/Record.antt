@@ -2,20 +2,20 @@
 -- as far. From this, whether a store is hidden and whether an access races, by the record.
 use mathlib.Core.Path.{_≡_, refl, sym, ap, _∙_}
 use mathlib.Core.Logic.{_↔_, _⊎_, inl, inr}
-use mathlib.Core.Bool.{Bool, true, false, cond, _&&_, _||_}
-use mathlib.Core.Option.{Option, none, some}
-use mathlib.Core.List.{List, [], _∷_}
-use Prim.Native.Nat.{ℕ, suc, _≤_, _<_, max}
+use mathlib.Core.Bool.{true, false, _&&_, _||_}
+use mathlib.Core.Option.{some}
+use mathlib.Core.List.{[], _∷_}
+use Prim.Native.Nat.{ℕ, _≤_, _<_, max}
 use native.Mathlib.Omega.{arith}
 use native.Mathlib.Decide.{decLe}
 use lib.ListN.{length}
 use Rattle.order.specs.Trace.{Core, other, sameCore, Ring, Place, index, slot, Act, idle, load, store, Trace, act, next, who, isStore, storesTo, accesses}
-use Rattle.order.specs.Order.{Orders, HappensBefore, initial, sequenced, synchronised, chain}
+use Rattle.order.specs.Order.{Orders, HappensBefore, sequenced, synchronised, chain}
 use Rattle.order.specs.Hidden.{Hidden}
 use Rattle.order.specs.Race.{RacesWith}
 use Rattle.order.specs.computed.Record.{syncs, learn, know}
-use Rattle.order.proofs.Trace.{clash, and-true, cond-elim, other-ne, same-self, same-true, accesses-who, act-next, act-in, act-pos, act-kept, At, newest, older, at, StoreOf}
-use Rattle.order.proofs.Chain.{Fits, Formed, Way, first, along, across, way, index-store, index-owner}
+use Rattle.order.proofs.Trace.{clash, and-true, cond-elim, other-ne, same-self, same-true, accesses-who, act-next, act-pos, act-kept, newest, older, at, StoreOf}
+use Rattle.order.proofs.Chain.{Formed, Way, first, along, across, way, index-store, index-owner}
 
 syncs-is : (o : Orders) (c : Core) (r : Ring) → o .acquire r c ≡ true → o .release r (other c) ≡ true → syncs o c (index r (other c)) ≡ true
 syncs-is o c r p q = rw (same-self (other c), p, q)

@@ -1,8 +1,8 @@
 -- Laws of cores, places and traces: what stands at an entry, and the list of a place's stores.
-use mathlib.Core.Path.{_≡_, refl, sym, ap, _∙_}
+use mathlib.Core.Path.{_≡_, refl, ap}
 use mathlib.Core.Logic.{_⊎_, inl, inr}
 use mathlib.Core.Bool.{Bool, true, false, cond, _&&_, _||_}
-use mathlib.Core.Option.{Option, none, some}
+use mathlib.Core.Option.{some}
 use mathlib.Core.List.{List, [], _∷_}
 use Prim.Native.Nat.{ℕ, zero, suc, _≤_, _<_}
 use native.Mathlib.Omega.{arith}
@@ -10,7 +10,7 @@ use native.Mathlib.Decide.{decLe}
 use lib.ListN.{length, getD, getElem?}
 use lib.Dec.{eqb}
 use borrow.Author.Tests.{eq-eqb, ne-eqb, eqb-true}
-use Rattle.order.specs.Trace.{Core, core0, core1, other, sameCore, Ring, Place, index, slot, samePlace, Act, idle, load, store, Trace, next, act, who, isStore, storesTo, accesses, stores, latest}
+use Rattle.order.specs.Trace.{Core, core0, core1, other, sameCore, Place, index, slot, samePlace, Act, idle, load, store, Trace, next, act, who, isStore, storesTo, accesses, stores, latest}
 
 -- From a contradiction that `cc` finds, anything.
 pub clash {ℓ} : {A : Type ℓ} → _≡_ {A = ℕ} 0 1 → A
@@ -35,6 +35,22 @@ or-comm true true = refl
 or-comm true false = refl
 or-comm false true = refl
 or-comm false false = refl
+
+pub or-none : (x y : Bool) → (x || y) ≡ false → (x ≡ false) × (y ≡ false)
+or-none true y e = clash (cc)
+or-none false y e = (refl, e)
+
+pub or-false : (x : Bool) → (x || false) ≡ x
+or-false true = refl
+or-false false = refl
+
+pub and-false : (x : Bool) → (x && false) ≡ false
+and-false true = refl
+and-false false = refl
+
+pub and-with : (x : Bool) → (x && true) ≡ x
+and-with true = refl
+and-with false = refl
 
 -- Cores
 

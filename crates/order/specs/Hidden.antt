@@ -1,7 +1,7 @@
 -- Axiom 2: which stores a load may not read. Both forms look at the trace with the load already on it.
 use mathlib.Core.Path.{_≡_}
 use mathlib.Core.Logic.{_⊎_}
-use mathlib.Core.Bool.{Bool, true}
+use mathlib.Core.Bool.{true}
 use mathlib.Core.List.{_∷_}
 use Prim.Native.Nat.{ℕ, _<_}
 use Rattle.order.specs.Trace.{Core, Place, load, Trace, act, next, storesTo}

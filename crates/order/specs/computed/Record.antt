@@ -1,5 +1,5 @@
 -- The record: what a core knows of the other, as one number. Not needed to believe any promise; it is proved to agree with happens-before.
-use mathlib.Core.Bool.{Bool, true, false, cond, _&&_, _||_}
+use mathlib.Core.Bool.{Bool, false, cond, _&&_, _||_}
 use mathlib.Core.List.{List, [], _∷_}
 use Prim.Native.Nat.{ℕ, max}
 use lib.Dec.{ltb, leb}

@@ -1,0 +1,305 @@
+-- The data access of the code's machine is the definition's: it races, or one slot and one core change.
+use mathlib.Core.Path.{_≡_, refl, ap, sym, _∙_}
+use mathlib.Core.Bool.{Bool, true, false, cond}
+use mathlib.Core.Option.{some}
+use mathlib.Core.List.{List, [], _∷_, _++_}
+use Prim.Native.Nat.{ℕ, suc, _+_, _%_, _<_}
+use native.Mathlib.Omega.{arith}
+use native.Mathlib.Nat.{mod-lt, mod-eq-of-lt}
+use lib.Dec.{ltb}
+use lib.ListN.{getD, set, length, drop, length-append}
+use lib.Seq.{set-getD, drop-drop}
+use borrow.Author.Tests.{lt-ltb}
+use Rattle.order.specs.Trace.{Core, core0, core1, index, slot, Act, load, store, Trace, next, who, storesTo, latest}
+use Rattle.order.specs.computed.Record.{know, learn, rival}
+use Rattle.model.specs.File.{ringSize, orderBits, pushSizes, popSizes, pushBytes, ordersOf}
+use Rattle.model.specs.Marks.{dataStored, dataLoaded}
+use Rattle.model.specs.Queue.{moving, Queue}
+use Rattle.model.specs.Plan as pl
+use Rattle.model.specs.Run.{Result, performed, raced, State, shapeOf}
+use Rattle.model.specs.computed.Machine.{decided, step}
+use Rattle.model.proofs.Total.{total-take-suc, total-take-le}
+use Rattle.ring.specs.declared.state.Slot.{Slot}
+use Rattle.ring.specs.declared.state.Core as rc
+use Rattle.ring.specs.declared.state.Ring.{Ring}
+use Rattle.ring.specs.computed.State.{freshSlot, freshCore, coreAt}
+use Rattle.ring.specs.computed.Reads.{byteFor}
+use Rattle.ring.specs.computed.Moves as mv
+use Rattle.ring.proofs.Parts.{num, sizesOf, Good, batches-cons, feed-at, progress, phase-after-move}
+use Rattle.ring.proofs.Lists.{listed-old}
+use Rattle.ring.proofs.Rep.{CoreRep, Rep, put-same, put-other}
+use Rattle.ring.proofs.Cells.{bytes-stored, bytes-loaded, lately-stored, lately-loaded}
+use Rattle.ring.proofs.Kept.{moved-kept, raced-kept}
+use Rattle.ring.proofs.Join.{Joined, no-more, list-same, step-is}
+
+-- The ring after a data access of slot y, by whether it races with entry i.
+abbrev accessed : Ring → Core → (y : ℕ) → Bool → (i byte entry : ℕ) → Ring
+accessed s c y b i byte entry = record {
+  size = s .size;
+  modulus = s .modulus;
+  race = mv.ifRaces b entry;
+  partner = mv.ifRaces b i;
+  bits = s .bits;
+  mark = mv.accessMark b (num c);
+  byte = getD (s .slots) y freshSlot .byte % 256;
+  slots = set (s .slots) y (mv.accessed (getD (s .slots) y freshSlot) b (num c) byte entry);
+  cores = set (s .cores) (num c) (mv.movedOn (coreAt s (num c)) b);
+  back = s .back;
+  front = s .front;
+}
+
+module _ {f : List ℕ} (g : Good f) {s : Ring} {st : State} {xs : List Result} (r : Rep f s st xs) (h : st .halted ≡ false) (c : Core)
+    (more : coreAt s (num c) .batch < length (sizesOf f c)) (i : ℕ) (ep : st .queue .side c .phase ≡ moving i)
+    (left : i < getD (sizesOf f c) (coreAt s (num c) .batch) 0) where
+  moved : coreAt s (num c) .moved ≡ i
+  moved = r .core-is c .moved-is ∙ ap progress ep
+
+  sized : coreAt s (num c) .size ≡ getD (sizesOf f c) (coreAt s (num c) .batch) 0
+  sized = (rw ep at (r .core-is c .sized)) .1
+
+  -- The slot, and that the ring has it.
+  inside : pl.slotOf (shapeOf f) (st .queue .side c .own) i < ringSize f
+  inside = mod-lt (st .queue .side c .own + i) (omega (arith, g .ranges .some-slot))
+
+  -- The core with one byte more moved.
+  moved-core : (a : Act) (byte : ℕ) → learn (ordersOf (orderBits f)) c a ≡ 0
+      → CoreRep f (a ∷ st .trace) c (mv.movedOn (coreAt s (num c)) false) (record {
+        batches = getD (sizesOf f c) (coreAt s (num c) .batch) 0 ∷ drop (coreAt s (num c) .batch + 1) (sizesOf f c);
+        phase = moving (suc i);
+        own = st .queue .side c .own;
+        cached = st .queue .side c .cached;
+        moved = st .queue .side c .moved ++ (byte ∷ []);
+        completed = st .queue .side c .completed;
+      })
+  unfolding mv.movedOn
+  moved-core a byte learns =
+      let d = r .core-is c in
+      let up : coreAt s (num c) .moved + 1 ≡ suc i = omega (arith, moved) in
+      record {
+        phase-is = rw up (phase-after-move (suc i) (coreAt s (num c) .size));
+        moved-is = up;
+        batches-are = sym (batches-cons (sizesOf f c) (coreAt s (num c) .batch) more);
+        batch-le = d .batch-le;
+        sized = (more, sized, omega (arith, left, sized));
+        size-lt = d .size-lt;
+        own-is = d .own-is;
+        own-lt = d .own-lt;
+        cached-is = d .cached-is;
+        known-is = d .known-is ∙ omega (arith, learns);
+        passed-is = d .passed-is;
+        done-is = d .done-is;
+        done-le = d .done-le;
+        bytes-moved = length-append (st .queue .side c .moved) (byte ∷ []) ∙ omega (arith, d .bytes-moved);
+        failed-le = d .failed-le;
+      }
+
+  moved-facts : let d = mv.movedOn (coreAt s (num c)) false in
+      (d .batch ≡ coreAt s (num c) .batch) × (d .passed ≡ coreAt s (num c) .passed) × (d .moved ≡ coreAt s (num c) .moved + 1)
+      × (d .done ≡ coreAt s (num c) .done) × (d .failed ≡ coreAt s (num c) .failed)
+  unfolding mv.movedOn
+  moved-facts = (refl, refl, refl, refl, refl)
+
+  data-ring : (y i byte entry : ℕ) → y ≡ pl.slotOf (shapeOf f) (st .queue .side c .own) (coreAt s (num c) .moved)
+      → i ≡ mv.rivalOf (getD (s .slots) y freshSlot) (num c)
+      → mv.dataAccess s (num c) byte entry ≡ accessed s c y (ltb (know (ordersOf (orderBits f)) (st .trace) c) i) i byte entry
+  unfolding mv.dataAccess
+  data-ring y i byte entry ey ei =
+      let k : mv.slotOf (coreAt s (num c) .own) (coreAt s (num c) .moved) (s .size) ≡ y = slot-eq (coreAt s (num c) .own) (st .queue .side c .own) (coreAt s (num c) .moved) (s .size) (r .core-is c .own-is) (r .size-is) ∙ sym ey in
+      cc (k, ei, r .core-is c .known-is)
+    where
+      slot-eq : (own own′ n m : ℕ) → own ≡ own′ → m ≡ ringSize f → mv.slotOf own n m ≡ pl.slotOf (shapeOf f) own′ n
+      slot-eq own own′ n m p q = cc
+
+  -- It races: nothing changes but the pair of entries and the mark.
+  race-joined : (a : Act) (y i byte : ℕ) → who a ≡ some c → learn (ordersOf (orderBits f)) c a ≡ 0 → ((e : Core) → storesTo (index 0 e) a ≡ false)
+      → Joined f (accessed s c y true i byte (next (st .trace))) st xs (raced a (st .queue) i)
+  unfolding mv.ifRaces mv.accessMark mv.accessed mv.movedOn
+  race-joined a y i byte acts learns ns = record {
+    rep = raced-kept r h acts learns ns refl refl refl (set-getD (s .slots) y freshSlot) (set-getD (s .cores) (num c) freshCore) refl refl refl refl;
+    mark-is = refl;
+    performs = refl;
+    out-is = no-more (st .queue .out);
+  }
+
+rival-store : (x : Slot) → mv.rivalOf x 0 ≡ x .loaded
+unfolding mv.rivalOf
+rival-store x = refl
+
+rival-load : (x : Slot) → mv.rivalOf x 1 ≡ x .stored
+unfolding mv.rivalOf
+rival-load x = refl
+
+slot-learns-nothing : (n : ℕ) (c : Core) (y e : ℕ) → learn (ordersOf n) c (load c (slot 0 y) e) ≡ 0
+slot-learns-nothing n core0 y e = refl
+slot-learns-nothing n core1 y e = refl
+
+-- The producer's data store.
+module _ {f : List ℕ} (g : Good f) {s : Ring} {st : State} {xs : List Result} (r : Rep f s st xs) (h : st .halted ≡ false)
+    (more : coreAt s 0 .batch < length (pushSizes f)) (i : ℕ) (ep : st .queue .side core0 .phase ≡ moving i)
+    (left : i < getD (pushSizes f) (coreAt s 0 .batch) 0) where
+  -- The byte that the code reads is the next byte to be pushed.
+  byte-is : byteFor f 0 (coreAt s 0 .passed) (coreAt s 0 .moved) ≡ getD (st .queue .feed) 0 0
+  byte-is =
+      let d = r .core-is core0 in
+      let m = moved g r h core0 more i ep left in
+      let one-more = total-take-suc (pushSizes f) (coreAt s 0 .batch) more in
+      let all = total-take-le (pushSizes f) (suc (coreAt s 0 .batch)) in
+      sym (ap (λ (l : List ℕ). getD l 0 0) (r .feed-is) ∙ feed-at f (coreAt s 0 .passed) (coreAt s 0 .moved) (omega (arith, d .passed-is)))
+
+  byte-small : getD (st .queue .feed) 0 0 < 256
+  unfolding byteFor
+  byte-small = rw byte-is at (g .bytes (Rattle.model.specs.File.sizesEnd f + coreAt s 0 .passed + coreAt s 0 .moved))
+
+  -- The queue after the store.
+  pushed : ℕ → Queue
+  pushed y = record {
+    side = pl.movedOn (st .queue) core0 (getD (pushSizes f) (coreAt s 0 .batch) 0) (drop (coreAt s 0 .batch + 1) (pushSizes f)) i (getD (st .queue .feed) 0 0);
+    slots = set (st .queue .slots) y (getD (st .queue .feed) 0 0);
+    feed = drop 1 (st .queue .feed);
+    out = st .queue .out;
+  }
+
+  store-moves : (y k : ℕ) → y < ringSize f
+      → Joined f (accessed s core0 y false k (getD (st .queue .feed) 0 0) (next (st .trace))) st xs
+      (performed dataStored (store core0 (slot 0 y) (getD (st .queue .feed) 0 0)) (pushed y))
+  unfolding pushed mv.ifRaces mv.accessMark mv.accessed
+  store-moves y k lt =
+      let v : ℕ = getD (st .queue .feed) 0 0 in
+      let a : Act = store core0 (slot 0 y) v in
+      let d : rc.Core = mv.movedOn (coreAt s 0) false in
+      let z = moved-facts g r h core0 more i ep left in
+      let s′ : Ring = accessed s core0 y false k v (next (st .trace)) in
+      let same = list-same s s′ refl refl in
+      record {
+        rep = moved-kept r h (record {
+          size-same = refl;
+          modulus-same = refl;
+          bits-same = refl;
+          race-same = refl;
+          partner-same = refl;
+          cores-are = refl;
+          sides-are = refl;
+          acts = refl;
+          plain = omega arith;
+          core-new = moved-core g r h core0 more i ep left a v refl;
+          lists-new = λ e. rw (same e) (listed-old a refl (r .list-is e));
+          few-new = omega (arith, r .list-few core0);
+          few-other = refl;
+          bytes-new = bytes-stored (ringSize f) (g .ranges .slots) (s .slots) (st .queue .slots) y lt (r .bytes-are) v (next (st .trace)) byte-small;
+          lately-new = lately-stored (ringSize f) (g .ranges .slots) (s .slots) (st .queue .slots) y lt (r .bytes-are) (st .trace) (r .lately h) v;
+          feed-new =
+              let e : coreAt s 0 .passed + coreAt s 0 .moved + 1 ≡ d .passed + d .moved = omega arith in
+              rw (put-same (s .cores) core0 d (r .two-cores), r .feed-is)
+              (drop-drop 1 (coreAt s 0 .passed + coreAt s 0 .moved) (pushBytes f) ∙ ap (λ (j : ℕ). drop j (pushBytes f)) e);
+          out-new = rw (put-other (s .cores) core0 d) (r .out-long);
+          failed-new = omega arith;
+        });
+        mark-is = refl;
+        performs = refl;
+        out-is = no-more (st .queue .out);
+      }
+
+  -- 3. THE DATA STORE.
+  pub store-joined : Joined f (mv.dataAccess s 0 (byteFor f 0 (coreAt s 0 .passed) (coreAt s 0 .moved)) (next (st .trace))) st xs
+      (step (shapeOf f) st (record { core = 0; age = 0 }))
+  unfolding pushed
+  store-joined =
+      let t : Trace = st .trace in
+      let q : Queue = st .queue in
+      let n : ℕ = getD (pushSizes f) (coreAt s 0 .batch) 0 in
+      let rest : List ℕ = drop (coreAt s 0 .batch + 1) (pushSizes f) in
+      let y : ℕ = pl.slotOf (shapeOf f) (q .side core0 .own) i in
+      let k : ℕ = rival t core0 (slot 0 y) true in
+      let v : ℕ = getD (q .feed) 0 0 in
+      let ey : y ≡ pl.slotOf (shapeOf f) (q .side core0 .own) (coreAt s 0 .moved) = ap (pl.slotOf (shapeOf f) (q .side core0 .own)) (sym (moved g r h core0 more i ep left)) in
+      let lt = inside g r h core0 more i ep left in
+      let eb : q .side core0 .batches ≡ n ∷ rest = r .core-is core0 .batches-are ∙ batches-cons (pushSizes f) (coreAt s 0 .batch) more in
+      let ex : step (shapeOf f) st (record { core = 0; age = 0 }) ≡ decided (ordersOf (orderBits f)) core0 q t (pl.dataStore 0 core0 q n rest i y) =
+      step-is f st core0 0 h ∙ ap (decided (ordersOf (orderBits f)) core0 q t)
+      (ap (pl.ofBatches (shapeOf f) 0 core0 q t 0) eb ∙ ap (pl.inBatch (shapeOf f) 0 core0 q t 0 n rest) ep
+      ∙ ap (λ (b : Bool). cond b (pl.dataAccess (shapeOf f) 0 core0 q t n rest i) (pl.indexStore (shapeOf f) 0 core0 q n rest)) (lt-ltb i n left)) in
+      rw (byte-is, data-ring g r h core0 more i ep left y k v (next t) ey (sym (rival-store (getD (s .slots) y freshSlot) ∙ r .lately h .loaded-is y lt)), ex)
+      (by-race (ltb (know (ordersOf (orderBits f)) t core0) k) y k lt)
+    where
+      by-race : (b : Bool) (y k : ℕ) → y < ringSize f
+          → Joined f (accessed s core0 y b k (getD (st .queue .feed) 0 0) (next (st .trace))) st xs
+          (cond b (raced (store core0 (slot 0 y) (getD (st .queue .feed) 0 0)) (st .queue) k) (performed dataStored (store core0 (slot 0 y) (getD (st .queue .feed) 0 0)) (pushed y)))
+      by-race true y k lt = race-joined g r h core0 more i ep left (store core0 (slot 0 y) (getD (st .queue .feed) 0 0)) y k (getD (st .queue .feed) 0 0) refl refl (λ e. refl)
+      by-race false y k lt = store-moves y k lt
+
+-- The consumer's data load.
+module _ {f : List ℕ} (g : Good f) {s : Ring} {st : State} {xs : List Result} (r : Rep f s st xs) (h : st .halted ≡ false)
+    (more : coreAt s 1 .batch < length (popSizes f)) (i : ℕ) (ep : st .queue .side core1 .phase ≡ moving i)
+    (left : i < getD (popSizes f) (coreAt s 1 .batch) 0) where
+  -- The queue after the load.
+  popped : ℕ → Queue
+  popped y = record {
+    side = pl.movedOn (st .queue) core1 (getD (popSizes f) (coreAt s 1 .batch) 0) (drop (coreAt s 1 .batch + 1) (popSizes f)) i (getD (st .queue .slots) y 0);
+    slots = st .queue .slots;
+    feed = st .queue .feed;
+    out = st .queue .out ++ (getD (st .queue .slots) y 0 ∷ []);
+  }
+
+  load-moves : (y k e byte : ℕ) → y < ringSize f
+      → Joined f (accessed s core1 y false k byte (next (st .trace))) st xs (performed dataLoaded (load core1 (slot 0 y) e) (popped y))
+  unfolding popped mv.ifRaces mv.accessMark mv.accessed
+  load-moves y k e byte lt =
+      let a : Act = load core1 (slot 0 y) e in
+      let v : ℕ = getD (st .queue .slots) y 0 in
+      let d : rc.Core = mv.movedOn (coreAt s 1) false in
+      let z = moved-facts g r h core1 more i ep left in
+      let s′ : Ring = accessed s core1 y false k byte (next (st .trace)) in
+      let same = list-same s s′ refl refl in
+      record {
+        rep = moved-kept r h (record {
+          size-same = refl;
+          modulus-same = refl;
+          bits-same = refl;
+          race-same = refl;
+          partner-same = refl;
+          cores-are = refl;
+          sides-are = refl;
+          acts = refl;
+          plain = omega arith;
+          core-new = moved-core g r h core1 more i ep left a v refl;
+          lists-new = λ x. rw (same x) (listed-old a refl (r .list-is x));
+          few-new = omega (arith, r .list-few core1);
+          few-other = refl;
+          bytes-new = bytes-loaded (ringSize f) (g .ranges .slots) (s .slots) (st .queue .slots) y lt (r .bytes-are) (next (st .trace));
+          lately-new = lately-loaded (ringSize f) (g .ranges .slots) (s .slots) (st .queue .slots) y lt (r .bytes-are) (st .trace) (r .lately h) e;
+          feed-new = rw (put-other (s .cores) core1 d) (r .feed-is);
+          out-new = rw (put-same (s .cores) core1 d (r .two-cores)) (length-append (st .queue .out) (v ∷ []) ∙ omega (arith, r .out-long));
+          failed-new = omega arith;
+        });
+        mark-is = refl;
+        performs = refl;
+        out-is = ap (λ (b : ℕ). st .queue .out ++ (b ∷ []))
+            (sym (mod-eq-of-lt (r .bytes-are .byte-lt y lt)) ∙ ap (λ (b : ℕ). b % 256) (sym (r .bytes-are .byte-is y lt)));
+      }
+
+  -- 3. THE DATA LOAD.
+  pub load-joined : (byte : ℕ) → Joined f (mv.dataAccess s 1 byte (next (st .trace))) st xs (step (shapeOf f) st (record { core = 1; age = 0 }))
+  unfolding popped
+  load-joined byte =
+      let t : Trace = st .trace in
+      let q : Queue = st .queue in
+      let n : ℕ = getD (popSizes f) (coreAt s 1 .batch) 0 in
+      let rest : List ℕ = drop (coreAt s 1 .batch + 1) (popSizes f) in
+      let y : ℕ = pl.slotOf (shapeOf f) (q .side core1 .own) i in
+      let k : ℕ = rival t core1 (slot 0 y) false in
+      let ey : y ≡ pl.slotOf (shapeOf f) (q .side core1 .own) (coreAt s 1 .moved) = ap (pl.slotOf (shapeOf f) (q .side core1 .own)) (sym (moved g r h core1 more i ep left)) in
+      let lt = inside g r h core1 more i ep left in
+      let eb : q .side core1 .batches ≡ n ∷ rest = r .core-is core1 .batches-are ∙ batches-cons (popSizes f) (coreAt s 1 .batch) more in
+      let ex : step (shapeOf f) st (record { core = 1; age = 0 }) ≡ decided (ordersOf (orderBits f)) core1 q t (pl.dataLoad 0 core1 q t n rest i y) =
+      step-is f st core1 0 h ∙ ap (decided (ordersOf (orderBits f)) core1 q t)
+      (ap (pl.ofBatches (shapeOf f) 0 core1 q t 0) eb ∙ ap (pl.inBatch (shapeOf f) 0 core1 q t 0 n rest) ep
+      ∙ ap (λ (b : Bool). cond b (pl.dataAccess (shapeOf f) 0 core1 q t n rest i) (pl.indexStore (shapeOf f) 0 core1 q n rest)) (lt-ltb i n left)) in
+      rw (data-ring g r h core1 more i ep left y k byte (next t) ey (sym (rival-load (getD (s .slots) y freshSlot) ∙ r .lately h .stored-is y lt)), ex)
+      (by-race (ltb (know (ordersOf (orderBits f)) t core1) k) y k lt)
+    where
+      by-race : (b : Bool) (y k : ℕ) → y < ringSize f
+          → Joined f (accessed s core1 y b k byte (next (st .trace))) st xs
+          (cond b (raced (load core1 (slot 0 y) (latest (st .trace) (slot 0 y))) (st .queue) k)
+          (performed dataLoaded (load core1 (slot 0 y) (latest (st .trace) (slot 0 y))) (popped y)))
+      by-race true y k lt = race-joined g r h core1 more i ep left (load core1 (slot 0 y) (latest (st .trace) (slot 0 y))) y k byte refl refl (λ e. refl)
+      by-race false y k lt = load-moves y k (latest (st .trace) (slot 0 y)) byte lt

@@ -1,0 +1,17 @@
+pub mod Buffers
+pub mod Cells
+pub mod Data
+pub mod Join
+pub mod Kept
+pub mod Lists
+pub mod Loop
+pub mod Parts
+pub mod Rep
+pub mod ReportLaws
+pub mod Rows
+pub mod Step
+pub mod Sums
+pub mod Turn
+pub mod Verdict
+pub mod Walk
+pub mod Whole

@@ -1,0 +1,336 @@
+-- The run's loop: after i entries the ring stands for the definition's state after i entries, and the buffers hold its marks and bytes.
+use mathlib.Core.Path.{_≡_, refl, ap, sym, _∙_}
+use mathlib.Core.Logic.{_⊎_, inl, inr}
+use mathlib.Core.Bool.{Bool, true, false, cond}
+use mathlib.Core.Option.{some}
+use mathlib.Core.List.{List, [], _∷_, _++_}
+use Prim.Native.Nat.{ℕ, zero, suc, _+_, _*_, _-_, _%_, _<_, _≤_}
+use native.Mathlib.Omega.{arith}
+use native.Mathlib.Numerals.{add-one}
+use lib.Dec.{eqb}
+use lib.ListN.{getD, set, length, take, drop, length-append, length-map, length-drop, replicate, length-replicate, getD-replicate, getElem?}
+use lib.Seq.{take-all, length-take-le, take-length}
+use borrow.Author.Tests.{lt-leb}
+use Rattle.order.specs.Trace.{Core, core0, core1, index, stores}
+use Rattle.model.specs.File.{byteAt, ringSize, modulusOf, total, popSizes, scheduleAt, scheduleOf, Entry}
+use Rattle.model.specs.Marks.{dataLoaded, raceFound, noSuchCore}
+use Rattle.model.specs.Queue.{Shape}
+use Rattle.model.specs.Run.{Result, refused, State, after, shapeOf, freshSide, fresh}
+use Rattle.model.specs.Report.{count, marked, entryPerformed, entryRefused, occupancy, numbersOf}
+use Rattle.model.specs.Outcome.{marksOf}
+use Rattle.model.specs.computed.Machine.{step, results, ends}
+use Rattle.model.proofs.Report.{performed-and-refused, loads-are-bytes, pushed-bytes, popped-bytes}
+use Rattle.model.proofs.Some.{some-run}
+use Rattle.model.proofs.Total.{total-small}
+use Rattle.ring.specs.declared.state.Slot.{Slot}
+use Rattle.ring.specs.declared.state.Ring.{Ring}
+use Rattle.ring.specs.declared.state.Ran.{Ran}
+use Rattle.ring.specs.computed.State.{freshStores, freshSlots, freshSlot, freshCore, freshOf, newestOf}
+use Rattle.ring.specs.computed.Run.{nextPlace, putByte, resultsOf, endOf, Finished}
+use Rattle.ring.specs.computed.Report.{tenOf}
+use Rattle.ring.proofs.Parts.{sizesOf, Good, sizes-few, size-small}
+use Rattle.ring.proofs.Lists.{Listed, newest-is, newest-below}
+use Rattle.ring.proofs.Rep.{CoreRep, Rep, short, count-more, length-more}
+use Rattle.ring.proofs.Buffers.{put-next}
+use Rattle.ring.proofs.Kept.{refused-kept}
+use Rattle.ring.proofs.Join.{Joined, no-more}
+use Rattle.ring.proofs.Step.{out-bound}
+use Rattle.ring.proofs.Verdict.{answer, Goes, verdict}
+
+-- One entry more
+
+results-more : (g : Shape) (s : State) (es : List Entry) (i : ℕ) (d : Entry) → i < length es
+    → results g s (take (suc i) es) ≡ results g s (take i es) ++ (step g (ends g s (take i es)) (getD es i d) ∷ [])
+results-more g s [] i d h = absurd (omega arith)
+results-more g s (e ∷ es) zero d h = refl
+results-more g s (e ∷ es) (suc i) d h = ap (λ (l : List Result). step g s e ∷ l) (results-more g (after s (step g s e)) es i d (omega arith))
+
+ends-more : (g : Shape) (s : State) (es : List Entry) (i : ℕ) (d : Entry) → i < length es
+    → ends g s (take (suc i) es) ≡ after (ends g s (take i es)) (step g (ends g s (take i es)) (getD es i d))
+ends-more g s [] i d h = absurd (omega arith)
+ends-more g s (e ∷ es) zero d h = refl
+ends-more g s (e ∷ es) (suc i) d h = ends-more g (after s (step g s e)) es i d (omega arith)
+
+results-length : (g : Shape) (s : State) (es : List Entry) → length (results g s es) ≡ length es
+results-length g s [] = refl
+results-length g s (e ∷ es) = ap suc (results-length g (after s (step g s e)) es)
+
+-- The definition's results and state after i entries.
+abbrev pub resultsTo : List ℕ → ℕ → List Result
+resultsTo f i = results (shapeOf f) (fresh f) (take i (scheduleOf f))
+
+abbrev pub endTo : List ℕ → ℕ → State
+endTo f i = ends (shapeOf f) (fresh f) (take i (scheduleOf f))
+
+no-entry : Entry
+no-entry = record { core = 0; age = 0 }
+
+abbrev pub entryAt : List ℕ → ℕ → Entry
+entryAt f i = record { core = byteAt f (scheduleAt f + 2 * i); age = byteAt f (scheduleAt f + (2 * i + 1)) }
+
+entry-is : {f : List ℕ} → Good f → (i : ℕ) → i < length (scheduleOf f) → getD (scheduleOf f) i no-entry ≡ entryAt f i
+entry-is {f} g i h = let z = g .laid .entry i no-entry h in both-fields (getD (scheduleOf f) i no-entry) (byteAt f (scheduleAt f + 2 * i)) (byteAt f (scheduleAt f + (2 * i + 1))) (z .0) (z .1)
+  where
+    both-fields : (e : Entry) (a b : ℕ) → e .core ≡ a → e .age ≡ b → e ≡ record { core = a; age = b }
+    both-fields e a b p q = λ k. record { core = p k; age = q k }
+
+-- The fresh machine
+
+fresh-listed : (M : ℕ) → 0 < M → (c : Core) → Listed M [] (index 0 c) freshStores
+unfolding freshStores
+fresh-listed M pos c = record {
+  count-is = refl;
+  values-long = length-replicate {A = ℕ} 256 0;
+  entries-long = length-replicate {A = ℕ} 256 0;
+  entry-is = only;
+  value-is = λ j h. let e : 1 - 1 - j ≡ 0 = omega arith in rw e refl;
+  below = λ j h. let e : 1 - 1 - j ≡ 0 = omega arith in rw e pos;
+}
+  where
+    only : (j : ℕ) → j < 1 → getElem? (stores [] (index 0 c)) j ≡ some (getD (replicate 256 0) (1 - 1 - j) 0)
+    only zero h = refl
+    only (suc j) h = absurd (omega arith)
+
+fresh-sides : (f : List ℕ) (c : Core) → fresh f .queue .side c ≡ freshSide (sizesOf f c)
+fresh-sides f core0 = refl
+fresh-sides f core1 = refl
+
+fresh-core : {f : List ℕ} → Good f → (c : Core) → CoreRep f [] c freshCore (freshSide (sizesOf f c))
+unfolding total
+fresh-core {f} g c = record {
+  phase-is = refl;
+  moved-is = refl;
+  batches-are = refl;
+  batch-le = omega arith;
+  sized = tt;
+  size-lt = omega arith;
+  own-is = refl;
+  own-lt = omega (arith, g .ranges .modulus-low);
+  cached-is = refl;
+  known-is = refl;
+  passed-is = refl;
+  done-is = refl;
+  done-le = omega arith;
+  bytes-moved = refl;
+  failed-le = omega arith;
+}
+
+-- THE FRESH MACHINE stands for the definition's.
+pub fresh-rep : {f : List ℕ} → Good f → Rep f (freshOf f) (fresh f) []
+unfolding freshStores freshSlots
+fresh-rep {f} g = record {
+  size-is = refl;
+  modulus-is = refl;
+  bits-are = refl;
+  halted-is = refl;
+  two-cores = refl;
+  core-is = elim [ core0 ↦ fresh-core g core0 | core1 ↦ fresh-core g core1 ];
+  list-is = elim [
+    | core0 ↦ fresh-listed (modulusOf f) (omega (arith, g .ranges .modulus-low)) core0
+    | core1 ↦ fresh-listed (modulusOf f) (omega (arith, g .ranges .modulus-low)) core1
+  ];
+  list-few = elim [ core0 ↦ omega arith | core1 ↦ omega arith ];
+  bytes-are = record {
+    slots-long = length-replicate 128 freshSlot;
+    bytes-long = length-replicate {A = ℕ} (ringSize f) 0;
+    byte-is = λ y l. ap (λ (x : Slot). x .byte) (in-fresh y l) ∙ sym (getD-replicate {A = ℕ} (ringSize f) y 0 0 l);
+    byte-lt = λ y l. rw (getD-replicate {A = ℕ} (ringSize f) y 0 0 l) (omega arith);
+  };
+  lately = λ _. record {
+    stored-is = λ y l. ap (λ (x : Slot). x .stored) (in-fresh y l);
+    loaded-is = λ y l. ap (λ (x : Slot). x .loaded) (in-fresh y l);
+  };
+  feed-is = refl;
+  out-long = refl;
+  failed-is = elim [ core0 ↦ refl | core1 ↦ refl ];
+  race-is = refl;
+  partner-is = refl;
+  entries-are = refl;
+}
+  where
+    in-fresh : (y : ℕ) → y < ringSize f → getD (replicate 128 freshSlot) y freshSlot ≡ freshSlot
+    in-fresh y l = getD-replicate 128 y freshSlot freshSlot (omega (arith, g .ranges .slots))
+
+-- One byte more in out.
+byte-put : (q q′ out out₀ : List ℕ) (k v : ℕ) → out ≡ q ++ drop k out₀ → k ≡ length q → q′ ≡ q ++ (v ∷ []) → k < length out₀
+    → (set out k v ≡ q′ ++ drop (k + 1) out₀) × (k + 1 ≡ length q′)
+byte-put q q′ out out₀ k v e ek eq h = (
+  ap (λ (l : List ℕ). set l k v) e ∙ put-next q out₀ k v (sym ek) h ∙ rw eq refl,
+  sym (ap length eq ∙ length-more q v ∙ omega (arith, ek)),
+)
+
+-- After i entries: the ring, the entries performed, the place in out, and the two buffers.
+pub record Going (f : List ℕ) (marks₀ out₀ marks out : List ℕ) (s : Ring) (performed k i : ℕ) : Type 0 where
+  pub rep : Rep f s (endTo f i) (resultsTo f i)
+  pub inside : i ≤ length (scheduleOf f)
+  pub marks-are : marks ≡ marksOf (resultsTo f i) ++ drop i marks₀
+  pub out-is : out ≡ endTo f i .queue .out ++ drop k out₀
+  pub place-is : k ≡ length (endTo f i .queue .out)
+  pub performed-is : performed ≡ count entryPerformed (resultsTo f i)
+
+pub going-none : {f : List ℕ} → Good f → (marks out : List ℕ) → Going f marks out marks out (freshOf f) 0 0 0
+going-none g marks out = record {
+  rep = fresh-rep g;
+  inside = omega arith;
+  marks-are = refl;
+  out-is = refl;
+  place-is = refl;
+  performed-is = refl;
+}
+
+written-length : (p m : List ℕ) (n : ℕ) → length p ≡ n → n ≤ length m → length (p ++ drop n m) ≡ length m
+written-length p m n e h = length-append p (drop n m) ∙ omega (arith, length-drop n m)
+
+marks-length : (f : List ℕ) (i : ℕ) → i ≤ length (scheduleOf f) → length (marksOf (resultsTo f i)) ≡ i
+marks-length f i h =
+    length-map (resultsTo f i) (λ (x : Result). x .mark) ∙ results-length (shapeOf f) (fresh f) (take i (scheduleOf f)) ∙ length-take-le i (scheduleOf f) h
+
+pub tried : {f marks₀ out₀ marks out : List ℕ} {s : Ring} {performed k i : ℕ} → Going f marks₀ out₀ marks out s performed k i → length (resultsTo f i) ≡ i
+tried {f} {i = i} z = results-length (shapeOf f) (fresh f) (take i (scheduleOf f)) ∙ length-take-le i (scheduleOf f) (z .inside)
+
+marks-more : (xs : List Result) (x : Result) → marksOf (xs ++ (x ∷ [])) ≡ marksOf xs ++ (x .mark ∷ [])
+marks-more [] x = refl
+marks-more (y ∷ xs) x = ap (λ (l : List ℕ). y .mark ∷ l) (marks-more xs x)
+
+pub out-long : {f : List ℕ} → Good f → {marks₀ out₀ marks out : List ℕ} {s : Ring} {performed k i : ℕ} → Going f marks₀ out₀ marks out s performed k i
+    → k ≤ total (popSizes f)
+out-long g z = omega (arith, z .place-is, out-bound g (z .rep))
+
+module _ {f : List ℕ} (g : Good f) {marks₀ out₀ marks out : List ℕ} {s : Ring} {performed k i : ℕ} (z : Going f marks₀ out₀ marks out s performed k i)
+    (fit : length (scheduleOf f) ≤ length marks₀) (fits : total (popSizes f) ≤ length out₀) where
+  pub marks-same : length marks ≡ length marks₀
+  marks-same = ap length (z .marks-are) ∙ written-length (marksOf (resultsTo f i)) marks₀ i (marks-length f i (z .inside)) (omega (arith, z .inside))
+
+  pub out-same : length out ≡ length out₀
+  out-same = ap length (z .out-is) ∙ written-length (endTo f i .queue .out) out₀ k (sym (z .place-is)) (omega (arith, out-long g z))
+
+  pub performed-le : performed ≤ i
+  performed-le =
+      let e = performed-and-refused (resultsTo f i) in
+      omega (arith, z .performed-is, tried z)
+
+  module _ (more : i < length (scheduleOf f)) where
+    more-results : resultsTo f (suc i) ≡ resultsTo f i ++ (step (shapeOf f) (endTo f i) (entryAt f i) ∷ [])
+    more-results = results-more (shapeOf f) (fresh f) (scheduleOf f) i no-entry more
+        ∙ ap (λ (e : Entry). resultsTo f i ++ (step (shapeOf f) (endTo f i) e ∷ [])) (entry-is g i more)
+
+    more-end : endTo f (suc i) ≡ after (endTo f i) (step (shapeOf f) (endTo f i) (entryAt f i))
+    more-end = ends-more (shapeOf f) (fresh f) (scheduleOf f) i no-entry more
+        ∙ ap (λ (e : Entry). after (endTo f i) (step (shapeOf f) (endTo f i) e)) (entry-is g i more)
+
+    -- One mark more.
+    mark-put : (x : Result) (v : ℕ) → x .mark ≡ v → set marks i v ≡ marksOf (resultsTo f i ++ (x ∷ [])) ++ drop (i + 1) marks₀
+    mark-put x v e =
+        ap (λ (l : List ℕ). set l i v) (z .marks-are)
+        ∙ put-next (marksOf (resultsTo f i)) marks₀ i v (marks-length f i (z .inside)) (omega arith)
+        ∙ ap (λ (l : List ℕ). l ++ drop (i + 1) marks₀) (sym (marks-more (resultsTo f i) x ∙ ap (λ (n : ℕ). marksOf (resultsTo f i) ++ (n ∷ [])) e))
+
+    -- A REFUSED ENTRY writes its mark, and that is all.
+    pub going-refused : (mark : ℕ) → mark ≡ answer f s (byteAt f (scheduleAt f + 2 * i)) (byteAt f (scheduleAt f + (2 * i + 1))) → ¬ (mark ≡ 0)
+        → Going f marks₀ out₀ (set marks i mark) out s performed k (i + 1)
+    going-refused mark e h = rw (add-one i) (go (verdict g (z .rep) (byteAt f (scheduleAt f + 2 * i)) (byteAt f (scheduleAt f + (2 * i + 1)))))
+      where
+        go : ((step (shapeOf f) (endTo f i) (entryAt f i) ≡ refused (endTo f i .queue) (answer f s (byteAt f (scheduleAt f + 2 * i)) (byteAt f (scheduleAt f + (2 * i + 1)))))
+            × (noSuchCore ≤ answer f s (byteAt f (scheduleAt f + 2 * i)) (byteAt f (scheduleAt f + (2 * i + 1)))))
+            ⊎ (Goes f s (endTo f i) (byteAt f (scheduleAt f + 2 * i)) (byteAt f (scheduleAt f + (2 * i + 1)))
+            × (answer f s (byteAt f (scheduleAt f + 2 * i)) (byteAt f (scheduleAt f + (2 * i + 1))) ≡ 0))
+            → Going f marks₀ out₀ (set marks i mark) out s performed k (suc i)
+        go (inr w) = absurd (h (e ∙ w .1))
+        go (inl w) =
+            let x : Result = refused (endTo f i .queue) mark in
+            let ex : step (shapeOf f) (endTo f i) (entryAt f i) ≡ x = w .0 ∙ ap (refused (endTo f i .queue)) (sym e) in
+            let l : noSuchCore ≤ mark = omega (arith, w .1, e) in
+            let er : resultsTo f (suc i) ≡ resultsTo f i ++ (x ∷ []) = more-results ∙ ap (λ (y : Result). resultsTo f i ++ (y ∷ [])) ex in
+            let ee : endTo f (suc i) ≡ after (endTo f i) x = more-end ∙ ap (after (endTo f i)) ex in
+            record {
+              rep = rw (er, ee) (refused-kept (z .rep) mark l);
+              inside = more;
+              marks-are = rw (er, ← (add-one i)) (mark-put x mark refl);
+              out-is = rw ee (z .out-is);
+              place-is = rw ee (z .place-is);
+              performed-is = rw er (z .performed-is ∙ sym (count-more entryPerformed (resultsTo f i) x ∙ rw (lt-leb mark raceFound (omega arith)) (omega arith)));
+            }
+
+    -- A PERFORMED ENTRY writes its mark and, where it is a data load, one byte.
+    pub going-moved : {s′ : Ring} → Joined f s′ (endTo f i) (resultsTo f i) (step (shapeOf f) (endTo f i) (entryAt f i))
+        → Going f marks₀ out₀ (set marks i (s′ .mark)) (putByte out k (s′ .mark) (s′ .byte)) s′ (performed + 1) (nextPlace k (s′ .mark)) (i + 1)
+    going-moved {s′} j = rw (add-one i) (record {
+      rep = rw (more-results, more-end) (j .rep);
+      inside = more;
+      marks-are = rw (more-results, ← (add-one i)) (mark-put (step (shapeOf f) (endTo f i) (entryAt f i)) (s′ .mark) (sym (j .mark-is)));
+      out-is = rw more-end (written (eqb (s′ .mark) 5) refl .0);
+      place-is = rw more-end (written (eqb (s′ .mark) 5) refl .1);
+      performed-is = rw more-results (ap (λ (n : ℕ). n + 1) (z .performed-is) ∙ sym (count-more entryPerformed (resultsTo f i) (step (shapeOf f) (endTo f i) (entryAt f i)) ∙ rw (j .performs)));
+    })
+      where
+        written : (b : Bool) → eqb (s′ .mark) 5 ≡ b
+            → (cond b (set out k (s′ .byte)) out ≡ (step (shapeOf f) (endTo f i) (entryAt f i)) .queue .out ++ drop (cond b (k + 1) k) out₀)
+            × (cond b (k + 1) k ≡ length ((step (shapeOf f) (endTo f i) (entryAt f i)) .queue .out))
+        written true e =
+            let q′ : (step (shapeOf f) (endTo f i) (entryAt f i)) .queue .out ≡ endTo f i .queue .out ++ (s′ .byte ∷ []) = j .out-is ∙ rw e in
+            let l : length ((step (shapeOf f) (endTo f i) (entryAt f i)) .queue .out) ≤ total (popSizes f) = out-bound g (j .rep) in
+            let n = ap length q′ ∙ length-more (endTo f i .queue .out) (s′ .byte) in
+            byte-put (endTo f i .queue .out) ((step (shapeOf f) (endTo f i) (entryAt f i)) .queue .out) out out₀ k (s′ .byte) (z .out-is) (z .place-is) q′ (omega (arith, z .place-is))
+        written false e =
+            let q′ : (step (shapeOf f) (endTo f i) (entryAt f i)) .queue .out ≡ endTo f i .queue .out = j .out-is ∙ rw e (sym (no-more (endTo f i .queue .out))) in
+            (z .out-is ∙ ap (λ (l : List ℕ). l ++ drop k out₀) (sym q′), z .place-is ∙ ap length (sym q′))
+
+  -- A data load has a place in out.
+  pub place-lt : {s′ : Ring} → Joined f s′ (endTo f i) (resultsTo f i) (step (shapeOf f) (endTo f i) (entryAt f i)) → s′ .mark ≡ 5 → k < length out
+  place-lt {s′} j e =
+      let q′ : (step (shapeOf f) (endTo f i) (entryAt f i)) .queue .out ≡ endTo f i .queue .out ++ (s′ .byte ∷ []) = j .out-is ∙ rw e refl in
+      let l : length ((step (shapeOf f) (endTo f i) (entryAt f i)) .queue .out) ≤ total (popSizes f) = out-bound g (j .rep) in
+      let n = ap length q′ ∙ length-more (endTo f i .queue .out) (s′ .byte) in
+      omega (arith, z .place-is, out-same)
+
+-- The entries tried are those performed and those refused.
+counted : {f : List ℕ} {marks₀ out₀ marks out : List ℕ} {s : Ring} {performed k i : ℕ} → Going f marks₀ out₀ marks out s performed k i
+    → performed + count entryRefused (resultsTo f i) ≡ i
+counted {f} {i = i} z =
+    let e = performed-and-refused (resultsTo f i) in
+    omega (arith, z .performed-is, tried z)
+
+pops-all : (f : List ℕ) → total (take (length (popSizes f)) (popSizes f)) ≡ total (popSizes f)
+pops-all f = ap total (take-length (popSizes f))
+
+-- The code's ten numbers are the definition's.
+ten-numbers : {f : List ℕ} → Good f → {marks₀ out₀ marks out : List ℕ} {s : Ring} {performed k i : ℕ} → Going f marks₀ out₀ marks out s performed k i
+    → (n : ℕ) → n ≡ i → tenOf (record { ring = s; performed = performed; loads = k }) n ≡ numbersOf f (resultsTo f i) (endTo f i)
+unfolding tenOf numbersOf
+ten-numbers {f} g {s = s} {performed = performed} {k = k} {i = i} z n en =
+    let ran = some-run (shapeOf f) (fresh f) (take i (scheduleOf f)) tt in
+    let r = z .rep in
+    let refused-are : n - performed ≡ count entryRefused (resultsTo f i) = omega (arith, counted z) in
+    let pushed-are = r .core-is core0 .done-is ∙ pushed-bytes f ran in
+    let popped-are = r .core-is core1 .done-is ∙ popped-bytes f ran in
+    let loads-are : k ≡ count (marked dataLoaded) (resultsTo f i) = z .place-is ∙ loads-are-bytes ran ∙ omega arith in
+    let b = newest-is (r .list-is core0) in
+    let c = newest-is (r .list-is core1) in
+    let m = r .modulus-is in
+    let left : (newestOf (s .back) + (s .modulus - newestOf (s .front))) % s .modulus ≡ occupancy (modulusOf f) (endTo f i .trace) = cc (b, c, m) in
+    cc (z .performed-is, refused-are, pushed-are, popped-are, loads-are, left, r .failed-is core0, r .failed-is core1, r .race-is, r .partner-is)
+
+-- THE END of the run: every entry was tried.
+pub finished : {f : List ℕ} → Good f → {marks₀ out₀ marks out : List ℕ} {s : Ring} {performed k i : ℕ} → Going f marks₀ out₀ marks out s performed k i
+    → length (scheduleOf f) ≤ i → (n : ℕ) → n ≡ length (scheduleOf f) → (r : Ran) → r ≡ record { ring = s; performed = performed; loads = k }
+    → Finished f n marks₀ out₀ r marks out
+finished {f} g {marks₀} {out₀} {marks} {out} {s} {performed} {k} {i} z past n en r er =
+    let ei : i ≡ n = omega (arith, z .inside) in
+    let all : take i (scheduleOf f) ≡ scheduleOf f = take-all i (scheduleOf f) past in
+    let eR : resultsTo f i ≡ resultsOf f = ap (results (shapeOf f) (fresh f)) all in
+    let eE : endTo f i ≡ endOf f = ap (ends (shapeOf f) (fresh f)) all in
+    let numbers = ten-numbers g z n (sym ei) in
+    rw er (record {
+      marks-are = rw (← eR, ← ei) (z .marks-are);
+      out-is = rw (← eE, ← (z .place-is)) (z .out-is);
+      numbers-are = rw (← eR, ← eE) numbers;
+      countable = record {
+        performed-le = omega (arith, counted z);
+        loads-lt = omega (arith, out-long g z, total-small (popSizes f) (length (popSizes f)) (size-small g core1), sizes-few g core1, pops-all f);
+        back = short g (z .rep) core0;
+        front = short g (z .rep) core1;
+        modulus-pos = omega (arith, z .rep .modulus-is, g .ranges .modulus-low);
+        modulus-le = omega (arith, z .rep .modulus-is, g .ranges .modulus-high);
+        front-lt = rw (z .rep .modulus-is) (newest-below (z .rep .list-is core1));
+      };
+    })

@@ -1,0 +1,71 @@
+-- The report as it is written, one number after the other.
+use mathlib.Core.Path.{_≡_, refl, _∙_}
+use mathlib.Core.List.{List, [], _∷_, _++_, append-assoc}
+use Prim.Native.Nat.{ℕ, suc, _+_, _*_, _/_, _%_, _<_, _≤_}
+use native.Mathlib.Omega.{arith}
+use native.Mathlib.Numerals.{add-one}
+use lib.ListN.{getD, set, length, take, drop, length-append, length-drop, length-take}
+use lib.Seq.{take-suc, take-all, length-take-le}
+use Rattle.model.specs.Report.{le4, bytesOf}
+use Rattle.ring.specs.computed.Report.{put4Of}
+use Rattle.ring.proofs.Buffers.{put-next}
+
+-- The next place of a list is written, the place after it known by an equation.
+put-next-at : (p l : List ℕ) (i j v : ℕ) → length p ≡ i
+    → i < length l → j ≡ i + 1 → set (p ++ drop i l) i v ≡ (p ++ (v ∷ [])) ++ drop j l
+put-next-at p l i j v e h q = rw q (put-next p l i v e h)
+
+put4-next : (p l : List ℕ) (k x : ℕ) → length p ≡ k
+    → k + 4 ≤ length l → put4Of (p ++ drop k l) k x ≡ (p ++ le4 x) ++ drop (k + 4) l
+put4-next p l k x e h =
+    let p1 = p ++ (x % 256 ∷ []) in
+    let p2 = p1 ++ (x / 256 % 256 ∷ []) in
+    let p3 = p2 ++ (x / 65536 % 256 ∷ []) in
+    rw (
+      put-next-at p l k (k + 1) (x % 256) e (omega arith) refl,
+      put-next-at p1 l (k + 1) (k + 2) (x / 256 % 256) (simp length-append (omega arith)) (omega arith) (omega arith),
+      put-next-at p2 l (k + 2) (k + 3) (x / 65536 % 256) (simp length-append (omega arith)) (omega arith) (omega arith),
+      put-next-at p3 l (k + 3) (k + 4) (x / 16777216 % 256) (simp length-append (omega arith)) (omega arith) (omega arith),
+    )
+    (simp append-assoc)
+
+bytes-append : (xs ys : List ℕ) → bytesOf (xs ++ ys) ≡ bytesOf xs ++ bytesOf ys
+unfolding bytesOf
+bytes-append [] ys = refl
+bytes-append (x ∷ xs) ys = rw (bytes-append xs ys)
+
+bytes-length : (xs : List ℕ) → length (bytesOf xs) ≡ 4 * length xs
+unfolding bytesOf
+bytes-length [] = refl
+bytes-length (x ∷ xs) = omega (arith, bytes-length xs)
+
+bytes-one : (x : ℕ) → bytesOf (x ∷ []) ≡ le4 x
+unfolding bytesOf
+bytes-one x = refl
+
+-- The report with its first i numbers written.
+abbrev pub Written : (numbers before after : List ℕ) (i : ℕ) → Type 0
+Written numbers before after i = after ≡ bytesOf (take i numbers) ++ drop (4 * i) before
+
+pub report-none : (numbers before : List ℕ) → Written numbers before before 0
+unfolding bytesOf
+report-none numbers before = refl
+
+-- One number more.
+pub report-more : (numbers before : List ℕ) {after : List ℕ} (i : ℕ) → i < length numbers → 4 * i + 4 ≤ length before
+    → Written numbers before after i → Written numbers before (put4Of after (4 * i) (getD numbers i 0)) (i + 1)
+report-more numbers before i h k w =
+    let e : 4 * i + 4 ≡ 4 * suc i = omega arith in
+    rw (w, add-one i, take-suc numbers i 0, bytes-append, bytes-one)
+    (put4-next (bytesOf (take i numbers)) before (4 * i) (getD numbers i 0) (rw (bytes-length, length-take) (omega arith)) k ∙ rw e)
+
+pub report-length : (numbers before : List ℕ) {after : List ℕ} (i : ℕ) → i ≤ 10 → 40 ≤ length before → length numbers ≡ 10
+    → Written numbers before after i → length after ≡ length before
+report-length numbers before i a b n w =
+    rw w (simp (length-append, length-drop, bytes-length) (omega (arith, length-take-le i numbers (omega arith))))
+
+pub report-all : (numbers before : List ℕ) {after : List ℕ} (i : ℕ) → i ≤ 10 → 10 ≤ i → length numbers ≡ 10
+    → Written numbers before after i → after ≡ bytesOf numbers ++ drop 40 before
+report-all numbers before i a b n w =
+    let ten : i ≡ 10 = omega arith in
+    w ∙ rw (ten, take-all 10 numbers (omega (arith, n)))

@@ -1,0 +1,123 @@
+-- The loop's invariant, and what each way through the loop's body makes of it.
+use mathlib.Core.Path.{_≡_, refl, ap, _∙_}
+use mathlib.Core.List.{List}
+use mathlib.Core.Logic.{_⊎_, inl, inr}
+use Prim.Native.Nat.{ℕ, _+_, _*_, _-_, _/_, _<_, _≤_}
+use native.Mathlib.Omega.{arith}
+use lib.ListN.{getD, set, length}
+use Rattle.order.specs.Trace.{next}
+use Rattle.model.specs.File.{byteAt, scheduleAt, scheduleOf}
+use Rattle.model.specs.Run.{refused, shapeOf}
+use Rattle.model.specs.computed.Machine.{step}
+use Rattle.ring.specs.declared.state.Ring.{Ring}
+use Rattle.ring.specs.declared.state.Ran.{Ran}
+use Rattle.ring.specs.computed.State.{freshOf, coreAt}
+use Rattle.ring.specs.computed.Refusal.{refusalOf}
+use Rattle.ring.specs.computed.Run.{whoOf, nextPlace, putByte, Ready, Finished}
+use Rattle.ring.proofs.Parts.{Good, good}
+use Rattle.ring.proofs.Join.{Joined}
+use Rattle.ring.proofs.Verdict.{answer, Goes, verdict}
+use Rattle.ring.proofs.Loop.{resultsTo, endTo, entryAt, Going, tried, going-none, going-refused, going-moved, marks-same, out-same, performed-le, place-lt, finished}
+
+-- THE LOOP'S INVARIANT: a lawful file of bytes, buffers that are long enough, and the run so far.
+pub record Turning (f : List ℕ) (at n : ℕ) (marks₀ out₀ marks out : List ℕ) (s : Ring) (performed k i : ℕ) : Type 0 where
+  pub fine : Good f
+  pub ready : Ready f at n (length marks₀) (length out₀)
+  pub going : Going f marks₀ out₀ marks out s performed k i
+
+-- An entry's two bytes lie in the file.
+pub entry-in : {f : List ℕ} {at n : ℕ} {marks₀ out₀ marks out : List ℕ} {s : Ring} {performed k i : ℕ} → Turning f at n marks₀ out₀ marks out s performed k i
+    → i < n → (at + 2 * i + 1 < length f) × (length f ≤ 65536)
+entry-in {f} {at} {n} {i = i} z h =
+    let e = z .fine .laid .entries in
+    let a = z .ready .at-is in
+    let b = z .ready .n-is in
+    let d : 2 * ((length f - scheduleAt f) / 2) ≤ length f - scheduleAt f = omega arith in
+    (omega (arith, z .fine .ranges .bytes-in), z .fine .ranges .bounded)
+
+-- Before the first entry.
+pub turning-none : {f : List ℕ} {at n : ℕ} {marks out : List ℕ} → ((k : ℕ) → byteAt f k < 256) → Ready f at n (length marks) (length out)
+    → (s : Ring) → s ≡ freshOf f → Turning f at n marks out marks out s 0 0 0
+turning-none {f} {marks = marks} {out = out} bytes ready s e =
+    let g = good f (ready .lawful) bytes in
+    record { fine = g; ready = ready; going = rw e (going-none g marks out) }
+
+-- One entry: its two bytes, the core's place, and the code's answer.
+module _ {f : List ℕ} {at n : ℕ} {marks₀ out₀ marks out : List ℕ} {s : Ring} {performed k i : ℕ} (z : Turning f at n marks₀ out₀ marks out s performed k i)
+    (more : i < n) (core age w b v : ℕ) (ec : core ≡ getD f (at + 2 * i) 0) (ea : age ≡ getD f (at + 2 * i + 1) 0) (ew : w ≡ whoOf core)
+    (eb : b ≡ byteAt f (6 + w)) (ev : v ≡ refusalOf core age (s .race) b (coreAt s w) (s .back) (s .front)) where
+  fits : length (scheduleOf f) ≤ length marks₀
+  fits = omega (arith, z .ready .marks-fit, z .ready .n-is)
+
+  left : i < length (scheduleOf f)
+  left = omega (arith, z .ready .n-is)
+
+  the-core : core ≡ byteAt f (scheduleAt f + 2 * i)
+  the-core = ec ∙ ap (λ (j : ℕ). getD f (j + 2 * i) 0) (z .ready .at-is)
+
+  the-age : age ≡ byteAt f (scheduleAt f + (2 * i + 1))
+  the-age =
+      let e : at + 2 * i + 1 ≡ scheduleAt f + (2 * i + 1) = omega (arith, z .ready .at-is) in
+      ea ∙ ap (λ (j : ℕ). getD f j 0) e
+
+  the-answer : v ≡ answer f s core age
+  the-answer = ev ∙ rw (eb, ew) refl
+
+  pub refused-turns : ¬ (v ≡ 0) → Turning f at n marks₀ out₀ (set marks i v) out s performed k (i + 1)
+  refused-turns h = record {
+    fine = z .fine;
+    ready = z .ready;
+    going = going-refused (z .fine) (z .going) fits (z .ready .out-fits) left v (the-answer ∙ rw (the-core, the-age) refl) h;
+  }
+
+  pub goes-on : v ≡ 0 → Goes f s (endTo f i) core age
+  goes-on h = go (verdict (z .fine) (z .going .rep) core age)
+    where
+      go : ((step (shapeOf f) (endTo f i) (record { core = core; age = age }) ≡ refused (endTo f i .queue) (answer f s core age)) × (129 ≤ answer f s core age))
+          ⊎ (Goes f s (endTo f i) core age × (answer f s core age ≡ 0)) → Goes f s (endTo f i) core age
+      go (inr x) = x .0
+      go (inl x) = absurd (omega (arith, the-answer, x .1))
+
+  -- The entry's number.
+  pub number-is : next (endTo f i .trace) ≡ i + 1
+  number-is = omega (arith, z .going .rep .entries-are, tried (z .going))
+
+  module _ {s′ : Ring} (j : Joined f s′ (endTo f i) (resultsTo f i) (step (shapeOf f) (endTo f i) (record { core = core; age = age }))) where
+    joined-here : Joined f s′ (endTo f i) (resultsTo f i) (step (shapeOf f) (endTo f i) (entryAt f i))
+    joined-here = rw (the-core, the-age) at j
+
+    pub place-here : s′ .mark ≡ 5 → k < length out
+    place-here e = place-lt (z .fine) (z .going) fits (z .ready .out-fits) joined-here e
+
+    pub moved-turns : (out′ : List ℕ) (k′ : ℕ) → out′ ≡ putByte out k (s′ .mark) (s′ .byte) → k′ ≡ nextPlace k (s′ .mark)
+        → Turning f at n marks₀ out₀ (set marks i (s′ .mark)) out′ s′ (performed + 1) k′ (i + 1)
+    moved-turns out′ k′ eo ek = record {
+      fine = z .fine;
+      ready = z .ready;
+      going = rw (eo, ek) (going-moved (z .fine) (z .going) fits (z .ready .out-fits) left joined-here);
+    }
+
+after-header : (f : List ℕ) → 8 ≤ scheduleAt f
+unfolding scheduleAt
+after-header f = omega arith
+
+-- The buffers keep their lengths, and there are no more entries performed than tried.
+module _ {f : List ℕ} {at n : ℕ} {marks₀ out₀ marks out : List ℕ} {s : Ring} {performed k i : ℕ} (z : Turning f at n marks₀ out₀ marks out s performed k i) where
+  fit : length (scheduleOf f) ≤ length marks₀
+  fit = omega (arith, z .ready .marks-fit, z .ready .n-is)
+
+  pub marks-length : length marks ≡ length marks₀
+  marks-length = marks-same (z .fine) (z .going) fit (z .ready .out-fits)
+
+  pub out-length : length out ≡ length out₀
+  out-length = out-same (z .fine) (z .going) fit (z .ready .out-fits)
+
+  pub few-performed : performed ≤ i
+  few-performed = performed-le (z .fine) (z .going) fit (z .ready .out-fits)
+
+  -- At most 32,764 entries.
+  pub few-entries : n ≤ 32764
+  few-entries = omega (arith, z .ready .n-is, z .fine .laid .entries, z .fine .ranges .bounded, z .fine .ranges .header, after-header f)
+
+  pub all-turned : n ≤ i → (r : Ran) → r ≡ record { ring = s; performed = performed; loads = k } → Finished f n marks₀ out₀ r marks out
+  all-turned past r e = finished (z .fine) (z .going) (omega (arith, z .ready .n-is)) n (z .ready .n-is) r e

@@ -1,0 +1,46 @@
+-- What the run's function asks and leaves, in terms of the model's computed run. Not needed to believe any promise.
+use mathlib.Core.Path.{_≡_}
+use mathlib.Core.Bool.{cond}
+use mathlib.Core.List.{List, _++_}
+use Prim.Native.Nat.{ℕ, _+_, _≤_}
+use lib.Dec.{eqb}
+use lib.ListN.{set, length, drop}
+use Rattle.model.specs.File.{total, popSizes, scheduleAt, scheduleOf}
+use Rattle.model.specs.Codes.{Lawful}
+use Rattle.model.specs.Run.{Result, State, shapeOf, fresh}
+use Rattle.model.specs.Report.{numbersOf}
+use Rattle.model.specs.Outcome.{marksOf}
+use Rattle.model.specs.computed.Machine.{results, ends}
+use Rattle.ring.specs.declared.state.Ran.{Ran}
+use Rattle.ring.specs.computed.Report.{tenOf, Countable}
+
+unfoldable pub whoOf : (core : ℕ) → ℕ
+whoOf core = cond (eqb core 0) 0 1
+
+abbrev pub nextPlace : (k mark : ℕ) → ℕ
+nextPlace k mark = cond (eqb mark 5) (k + 1) k
+
+abbrev pub putByte : List ℕ → (k mark byte : ℕ) → List ℕ
+putByte l k mark byte = cond (eqb mark 5) (set l k byte) l
+
+-- The computed run of a whole file.
+abbrev pub resultsOf : List ℕ → List Result
+resultsOf f = results (shapeOf f) (fresh f) (scheduleOf f)
+
+abbrev pub endOf : List ℕ → State
+endOf f = ends (shapeOf f) (fresh f) (scheduleOf f)
+
+-- A lawful file, its schedule's place and length, and buffers of these lengths that are long enough.
+pub record Ready (f : List ℕ) (at n marks out : ℕ) : Type 0 where
+  pub lawful : Lawful f
+  pub at-is : at ≡ scheduleAt f
+  pub n-is : n ≡ length (scheduleOf f)
+  pub marks-fit : n ≤ marks
+  pub out-fits : total (popSizes f) ≤ out
+
+-- The buffers hold the marks and the bytes of the computed run, and the numbers are its numbers.
+pub record Finished (f : List ℕ) (n : ℕ) (marks out : List ℕ) (r : Ran) (marks′ out′ : List ℕ) : Type 0 where
+  pub marks-are : marks′ ≡ marksOf (resultsOf f) ++ drop n marks
+  pub out-is : out′ ≡ endOf f .queue .out ++ drop (length (endOf f .queue .out)) out
+  pub numbers-are : tenOf r n ≡ numbersOf f (resultsOf f) (endOf f)
+  pub countable : Countable r n

@@ -1,0 +1,84 @@
+// The run over all entries of the schedule.
+use crate::file::batches;
+use crate::file::byte_for;
+use crate::file::fresh_ring;
+use crate::file::size_of;
+use crate::refusal::refusal;
+use crate::state::Ran;
+ghost use mathlib.Core.Path.{_≡_};
+ghost use Prim.Native.Nat.{_<_};
+ghost use lib.ListN.{length};
+ghost use Rattle.ring.specs.computed.Run.{whoOf, nextPlace, putByte, Ready, Finished};
+
+// Each entry in turn: refused with its mark, or the move that its core's phase chooses.
+pub(crate) fn run(file: &[u8], at: usize, n: usize, marks: &mut [u8], out: &mut [u8]) -> Ran
+    requires { ⌜ Ready (now file) at n (length (now marks)) (length (now out)) ⌝ }
+    ensures { λ r. ⌜ Finished (now (file .entry)) n (now (marks .entry)) (now (out .entry)) r (now (marks .exit)) (now (out .exit)) ⌝ }
+{
+    let mut ring = fresh_ring(file);
+    let mut performed: u32 = 0;
+    let mut k: usize = 0;
+    let mut i: usize = 0;
+    while i < n {
+        let a = at + 2 * i;
+        let core = file[a];
+        let age = file[a + 1];
+        let who = who_of(core);
+        let cores = ring.cores;
+        let c = cores[who];
+        let no = refusal(
+            core,
+            age,
+            ring.race,
+            batches(file, who),
+            c,
+            ring.back,
+            ring.front,
+        );
+        if no != 0 {
+            marks[i] = no;
+            i += 1;
+            continue;
+        }
+        let entry = (i + 1) as u16;
+        let phase = c.phase;
+        let next = match phase {
+            0 => ring.own_load(who, size_of(file, who, c.batch)),
+            1 => ring.foreign_load(who, age),
+            2 => ring.data_access(who, byte_for(file, who, c.passed, c.moved), entry),
+            _ => ring.index_store(who, entry),
+        };
+        marks[i] = next.mark;
+        k = keep_byte(out, k, next.mark, next.byte);
+        ring = next;
+        performed += 1;
+        i += 1;
+    }
+    Ran {
+        ring: ring,
+        performed: performed,
+        loads: k,
+    }
+}
+
+// The core's place among the two: 0 for core byte 0, else 1.
+fn who_of(core: u8) -> usize
+    ensures { λ r. ⌜ (r ≡ whoOf core) × (r < 2) ⌝ }
+{
+    if core == 0 {
+        return 0;
+    }
+    1
+}
+
+// The byte of a data load goes to the next place of out.
+fn keep_byte(out: &mut [u8], k: usize, mark: u8, byte: u8) -> usize
+    requires { ⌜ (mark ≡ 5 → k < length (now out)) ⌝ }
+    ensures { λ r. ⌜ (r ≡ nextPlace k mark) × (now (out .exit) ≡ putByte (now (out .entry)) k mark byte) ⌝ }
+{
+    if mark == 5 {
+        out[k] = byte;
+        return k + 1;
+    }
+    k
+}

@@ -1,0 +1,84 @@
+// The list of an index's stores. Each array is taken into a local before it is indexed, so that the compiler can keep the state apart.
+use crate::state::Ring;
+use crate::state::Stores;
+ghost use mathlib.Core.Path.{_≡_};
+ghost use Prim.Native.Nat.{_<_, _≤_};
+ghost use lib.ListN.{getD};
+ghost use Rattle.ring.specs.computed.State.{freshStores, pushed, newestOf, laterKnown};
+
+impl Stores {
+    // The initial store alone.
+    pub(crate) fn fresh() -> Self
+        ensures { λ r. ⌜ r ≡ freshStores ⌝ }
+    {
+        let zeros = [0u16; Ring::STORES];
+        Self {
+            values: zeros,
+            entries: zeros,
+            count: 1,
+        }
+    }
+
+    // One store more, at the end.
+    pub(crate) fn push(mut self, value: u16, entry: u16) -> Self
+        requires { ⌜ self .count < 256 ⌝ }
+        ensures { λ r. ⌜ r ≡ pushed self value entry ⌝ }
+    {
+        let n = self.count as usize;
+        let mut values = self.values;
+        let mut entries = self.entries;
+        values[n] = value;
+        entries[n] = entry;
+        self.values = values;
+        self.entries = entries;
+        self.count = self.count + 1;
+        self
+    }
+
+    // The value at a place of the list.
+    pub(crate) fn value_at(self, place: usize) -> u16
+        requires { ⌜ place < 256 ⌝ }
+        ensures { λ r. ⌜ r ≡ getD (self .values) place 0 ⌝ }
+    {
+        let values = self.values;
+        values[place]
+    }
+
+    // The entry that stored it.
+    pub(crate) fn entry_at(self, place: usize) -> u16
+        requires { ⌜ place < 256 ⌝ }
+        ensures { λ r. ⌜ r ≡ getD (self .entries) place 0 ⌝ }
+    {
+        let entries = self.entries;
+        entries[place]
+    }
+
+    // The value of the latest store.
+    pub(crate) fn newest(self) -> u16
+        requires { ⌜ (0 < self .count) × (self .count ≤ 256) ⌝ }
+        ensures { λ r. ⌜ r ≡ newestOf self ⌝ }
+    {
+        let place = self.count as usize - 1;
+        self.value_at(place)
+    }
+
+    // Is a store hidden: has one later than its place an entry within the core's record?
+    pub(crate) fn hides(self, place: usize, known: u16) -> bool
+        requires { ⌜ self .count ≤ 256 ⌝ }
+        ensures { λ r. ⌜ r ≡ laterKnown (self .entries) place known (self .count) ⌝ }
+    {
+        let entries = self.entries;
+        let n = self.count as usize;
+        let mut found = false;
+        let mut j: usize = 0;
+        while j < n {
+            if place < j {
+                if entries[j] <= known {
+                    found = true;
+                }
+            }
+            j += 1;
+        }
+        found
+    }
+}
