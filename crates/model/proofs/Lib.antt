@@ -12,3 +12,4 @@ pub mod Loads
 pub mod Memory
 pub mod Report
 pub mod Worked
+pub mod Inverse

@@ -20,7 +20,7 @@ use Rattle.order.proofs.Chain.{Formed, Way, first, along, across, way, 
 syncs-is : (o : Orders) (c : Core) (r : Ring) → o .acquire r c ≡ true → o .release r (other c) ≡ true → syncs o c (index r (other c)) ≡ true
 syncs-is o c r p q = rw (same-self (other c), p, q)
 
-learn-is : (o : Orders) (c : Core) (r : Ring) (s : ℕ) → o .acquire r c ≡ true → o .release r (other c) ≡ true
+pub learn-is : (o : Orders) (c : Core) (r : Ring) (s : ℕ) → o .acquire r c ≡ true → o .release r (other c) ≡ true
     → learn o c (load c (index r (other c)) s) ≡ s
 learn-is o c r s p q = rw (same-self c, syncs-is o c r p q)
 
@@ -33,7 +33,7 @@ know-ge o (a ∷ t) c r s l e p q = elim (at a t l c (ap who e)) [
 ]
 
 -- What the record was learnt from.
-data Source (o : Orders) (t : Trace) (c : Core) (s : ℕ) : Type 0 where
+pub data Source (o : Orders) (t : Trace) (c : Core) (s : ℕ) : Type 0 where
   nothing : s ≡ 0 → Source o t c s
   learnt : (r : Ring) (v l : ℕ) → act t s ≡ store (other c) (index r (other c)) v → o .release r (other c) ≡ true
       → act t l ≡ load c (index r (other c)) s → o .acquire r c ≡ true → l ≤ length t → Source o t c s
@@ -66,7 +66,7 @@ source-new o (load d x s) t c f = cond-elim (Source o (load d x s ∷ t) c) (sam
         learnt (z .0) (k .0) (next t) (act-kept (load d x s) t s (other c) (ap who (k .1)) ∙ k .1) (z .4)
         (act-next (load d x s) t ∙ cc (z .1, z .2)) (z .3) (omega arith)
 
-source : (o : Orders) (t : Trace) (c : Core) → Formed t → Source o t c (know o t c)
+pub source : (o : Orders) (t : Trace) (c : Core) → Formed t → Source o t c (know o t c)
 source o [] c f = nothing refl
 source o (a ∷ t) c f = elim (decLe (know o t c) (learn o c a)) [
   | yes h ↦ let e : max (know o t c) (learn o c a) ≡ learn o c a = omega arith in rw e (source-new o a t c f)

@@ -172,7 +172,7 @@ store-in t x s e =
 pub store-kept : (a : Act) (t : Trace) (x : Place) (s : ℕ) → storesTo x (act t s) ≡ true → storesTo x (act (a ∷ t) s) ≡ true
 store-kept a t x s e = rw (act-old a t s (store-in t x s e .0)) e
 
-storeOf-kept : (a : Act) (t : Trace) (x : Place) (s : ℕ) → StoreOf t x s → StoreOf (a ∷ t) x s
+pub storeOf-kept : (a : Act) (t : Trace) (x : Place) (s : ℕ) → StoreOf t x s → StoreOf (a ∷ t) x s
 storeOf-kept a t x s (inl e) = inl e
 storeOf-kept a t x s (inr e) = inr (store-kept a t x s e)
 

@@ -1,0 +1,14 @@
+pub mod Wrap
+pub mod Count
+pub mod Log
+pub mod Half
+pub mod Flow
+pub mod Moves
+pub mod Pushed
+pub mod Strong
+pub mod Call
+pub mod Same
+pub mod Turn
+pub mod Course
+pub mod Files
+pub mod Weak

@@ -1,0 +1,209 @@
+-- One turn of a core, as far as a race to come needs it: where the core stands afterwards, and what is on the trace.
+use mathlib.Core.Path.{_≡_, refl, sym, ap, _∙_, subst}
+use mathlib.Core.Bool.{Bool, true, false, cond}
+use mathlib.Core.List.{List, [], _∷_, _++_}
+use Prim.Native.Nat.{ℕ, suc, _+_, _%_, _≤_, _<_}
+use native.Mathlib.Omega.{arith}
+use lib.Dec.{eqb, ltb}
+use lib.ListN.{getElem?, getD, set, drop}
+use borrow.Author.Tests.{lt-ltb, le-ltb}
+use Rattle.order.specs.Trace.{Core, core0, core1, other, Place, index, slot, Act, load, store, Trace, stores, latest, valueOf, isStore}
+use Rattle.order.specs.Order.{Orders}
+use Rattle.order.specs.computed.Record.{know, newer, rival}
+use Rattle.model.specs.File.{Entry}
+use Rattle.model.specs.Marks.{foreignLoaded, dataStored, dataLoaded, raceFound, storeHidden}
+use Rattle.model.specs.Queue.{Shape, Phase, start, reload, moving, Side, Queue, withSide, isShort}
+use Rattle.model.specs.Plan.{Plan, unless-race, turned, ownLoad, foreignLoadOf, failBatch, keepBatch, dataStore, dataLoad, dataAccess, slotOf, movedOn, indexStore, inBatch, ofBatches, plan}
+use Rattle.model.specs.Run.{Result, refused, performed, State, after, theRing}
+use Rattle.model.specs.Report.{raceFrom}
+use Rattle.model.specs.computed.Machine.{decided, step, results}
+
+-- The machine, not halted.
+abbrev pub going : Queue → Trace → State
+going q t = record { trace = t; queue = q; halted = false }
+
+-- A run over these entries races, whatever the first of them is counted as.
+abbrev pub Racy : Shape → State → List Entry → Type 0
+Racy g s es = (n : ℕ) → 0 < n → ¬ (raceFrom n (results g s es) ≡ 0)
+
+-- An entry of core c, with age 0.
+abbrev pub entry : Core → Entry
+entry core0 = record { core = 0; age = 0 }
+entry core1 = record { core = 1; age = 0 }
+
+first-or-later : (b : Bool) (n k : ℕ) → 0 < n → ¬ (k ≡ 0) → ¬ (cond b n k ≡ 0)
+first-or-later true n k l h e = omega arith
+first-or-later false n k l h e = h e
+
+racy-later : (g : Shape) (s : State) (e : Entry) (es : List Entry) → Racy g (after s (step g s e)) es → Racy g s (e ∷ es)
+racy-later g s e es h n l =
+    first-or-later (eqb (step g s e .mark) raceFound) n (raceFrom (suc n) (results g (after s (step g s e)) es)) l (h (suc n) (omega arith))
+
+racy-now : (g : Shape) (s : State) (e : Entry) (es : List Entry) → step g s e .mark ≡ raceFound → Racy g s (e ∷ es)
+racy-now g s e es h n l = rw h (λ k. omega arith)
+
+-- A core's turn
+step-is : (g : Shape) (q : Queue) (t : Trace) (c : Core) → step g (going q t) (entry c) ≡ decided (g .orders) c q t (plan g theRing c q t 0)
+step-is g q t core0 = refl
+step-is g q t core1 = refl
+
+turn : (g : Shape) (q : Queue) (t : Trace) (c : Core) (es : List Entry) (p : Plan) (x : Result) → plan g theRing c q t 0 ≡ p → decided (g .orders) c q t p ≡ x
+    → eqb (x .mark) raceFound ≡ false → Racy g (going (x .queue) (x .did ∷ t)) es → Racy g (going q t) (entry c ∷ es)
+turn g q t c es p x ep ex k h =
+    let e : step g (going q t) (entry c) ≡ x = step-is g q t c ∙ ap (decided (g .orders) c q t) ep ∙ ex in
+    racy-later g (going q t) (entry c) es (rw (e, k) h)
+
+-- Where a core stands: its batches, its phase, its own index and the cached one.
+pub record Stands (me : Side) (l : List ℕ) (p : Phase) (own cached : ℕ) : Type 0 where
+  pub batches-are : me .batches ≡ l
+  pub phase-is : me .phase ≡ p
+  pub own-is : me .own ≡ own
+  pub cached-is : me .cached ≡ cached
+
+-- Core c stands so in queue q′, and the other core as it did in queue q.
+pub record Turned (q q′ : Queue) (c : Core) (l : List ℕ) (p : Phase) (own cached : ℕ) : Type 0 where
+  pub mine : Stands (q′ .side c) l p own cached
+  pub theirs : q′ .side (other c) ≡ q .side (other c)
+
+pub kept : {a b : Side} {l : List ℕ} {p : Phase} {own cached : ℕ} → b ≡ a → Stands a l p own cached → Stands b l p own cached
+kept {l = l} {p = p} {own = own} {cached = cached} e h = subst (λ (s : Side). Stands s l p own cached) (sym e) h
+
+with-mine : (f : Core → Side) (c : Core) (me : Side) → withSide f c me c ≡ me
+with-mine f core0 me = refl
+with-mine f core1 me = refl
+
+with-theirs : (f : Core → Side) (c : Core) (me : Side) → withSide f c me (other c) ≡ f (other c)
+with-theirs f core0 me = refl
+with-theirs f core1 me = refl
+
+not-newer : (s k : ℕ) → newer (s ∷ 0 ∷ []) s k ≡ false
+not-newer s k = rw (le-ltb s s (omega arith), le-ltb s 0 (omega arith))
+
+turned-so : (q : Queue) (c : Core) (me : Side) (feed : List ℕ) {l : List ℕ} {p : Phase} {own cached : ℕ} → Stands me l p own cached
+    → Turned q (turned q c me feed) c l p own cached
+turned-so q c me feed h = record { mine = kept (with-mine (q .side) c me) h; theirs = with-theirs (q .side) c me }
+
+module _ (g : Shape) (q : Queue) (t : Trace) (es : List Entry) (c : Core) (n : ℕ) (rest : List ℕ) (w k : ℕ) where
+  of-phase : {p : Phase} → Stands (q .side c) (n ∷ rest) p w k → plan g theRing c q t 0 ≡ inBatch g theRing c q t 0 n rest p
+  of-phase h = ap (ofBatches g theRing c q t 0) (h .batches-are) ∙ ap (inBatch g theRing c q t 0 n rest) (h .phase-is)
+
+  -- The load of the own index.
+  pub own-turn : (s v : ℕ) (p : Phase) → Stands (q .side c) (n ∷ rest) start w k → latest t (index theRing c) ≡ s → valueOf t s ≡ v
+      → cond (isShort g theRing c n v k) reload (moving 0) ≡ p
+      → ((q′ : Queue) → Turned q q′ c (n ∷ rest) p v k → Racy g (going q′ (load c (index theRing c) s ∷ t)) es)
+      → Racy g (going q t) (entry c ∷ es)
+  own-turn s v p h el ev ep next =
+      let v₀ = valueOf t (latest t (index theRing c)) in
+      let e₀ : v₀ ≡ v = ap (valueOf t) el ∙ ev in
+      let me : Side = record {
+        batches = n ∷ rest;
+        phase = cond (isShort g theRing c n v₀ (q .side c .cached)) reload (moving 0);
+        own = v₀;
+        cached = q .side c .cached;
+        moved = [];
+        completed = q .side c .completed;
+      } in
+      let ph : me .phase ≡ p =
+      ap (λ z. cond (isShort g theRing c n z (q .side c .cached)) reload (moving 0)) e₀
+      ∙ ap (λ z. cond (isShort g theRing c n v z) reload (moving 0)) (h .cached-is) ∙ ep in
+      turn g q t c es (ownLoad g theRing c q t n rest) _ (of-phase h) refl refl (
+      subst (λ z. Racy g (going (turned q c me (q .feed)) (load c (index theRing c) z ∷ t)) es) (sym el) (next (turned q c me (q .feed))
+      (turned-so q c me (q .feed) (record { batches-are = refl; phase-is = ph; own-is = e₀; cached-is = h .cached-is }))))
+
+  -- The load of the foreign index, from its newest store.
+  pub foreign-turn : (s v : ℕ) → Stands (q .side c) (n ∷ rest) reload w k → stores t (index theRing (other c)) ≡ s ∷ 0 ∷ [] → valueOf t s ≡ v
+      → isShort g theRing c n w v ≡ false
+      → ((q′ : Queue) → Turned q q′ c (n ∷ rest) (moving 0) w v → Racy g (going q′ (load c (index theRing (other c)) s ∷ t)) es)
+      → Racy g (going q t) (entry c ∷ es)
+  foreign-turn s v h el ev short next =
+      let me : Side = record { batches = n ∷ rest; phase = moving 0; own = q .side c .own; cached = valueOf t s; moved = []; completed = q .side c .completed } in
+      let ep : plan g theRing c q t 0 ≡ keepBatch theRing c q n rest s (valueOf t s) =
+      of-phase h ∙ ap (λ (l : List ℕ). foreignLoadOf g theRing c q t n rest (getElem? l 0)) el
+      ∙ ap (λ b. cond b (failBatch theRing c q n rest s (valueOf t s)) (keepBatch theRing c q n rest s (valueOf t s)))
+      (ap (λ z. isShort g theRing c n z (valueOf t s)) (h .own-is) ∙ ap (isShort g theRing c n w) ev ∙ short) in
+      let calm : newer (stores t (index theRing (other c))) s (know (g .orders) t c) ≡ false =
+      ap (λ (l : List ℕ). newer l s (know (g .orders) t c)) el ∙ not-newer s (know (g .orders) t c) in
+      turn g q t c es (keepBatch theRing c q n rest s (valueOf t s)) _ ep
+      (ap (λ b. cond b (refused q storeHidden) (performed foreignLoaded (load c (index theRing (other c)) s) (turned q c me (q .feed)))) calm) refl
+      (next (turned q c me (q .feed)) (turned-so q c me (q .feed) (record { batches-are = refl; phase-is = refl; own-is = h .own-is; cached-is = ev })))
+
+  -- The index store.
+  pub index-turn : Stands (q .side c) (n ∷ rest) (moving n) w k
+      → ((q′ : Queue) → Turned q q′ c rest start w k → Racy g (going q′ (store c (index theRing c) ((w + n) % g .modulus) ∷ t)) es)
+      → Racy g (going q t) (entry c ∷ es)
+  index-turn h next =
+      let me : Side = record {
+        batches = rest;
+        phase = start;
+        own = q .side c .own;
+        cached = q .side c .cached;
+        moved = [];
+        completed = q .side c .completed ++ q .side c .moved;
+      } in
+      let ep : plan g theRing c q t 0 ≡ indexStore g theRing c q n rest =
+      of-phase h ∙ ap (λ b. cond b (dataAccess g theRing c q t n rest n) (indexStore g theRing c q n rest)) (le-ltb n n (omega arith)) in
+      turn g q t c es (indexStore g theRing c q n rest) _ ep refl refl (
+      subst (λ z. Racy g (going (turned q c me (q .feed)) (store c (index theRing c) ((z + n) % g .modulus) ∷ t)) es) (sym (h .own-is))
+      (next (turned q c me (q .feed)) (turned-so q c me (q .feed) (record { batches-are = refl; phase-is = refl; own-is = h .own-is; cached-is = h .cached-is }))))
+
+-- An access in order is performed, and one that is not gets mark 7.
+calm-so : (o : Orders) (c : Core) (q : Queue) (t : Trace) (x : Place) (a : Act) (n : ℕ) (z : Queue) → rival t c x (isStore a) ≤ know o t c
+    → decided o c q t (unless-race x a n z) ≡ performed n a z
+calm-so o c q t x a n z h = rw (le-ltb (know o t c) (rival t c x (isStore a)) h)
+
+wild-so : (k r : ℕ) (x y : Result) → k < r → x .mark ≡ raceFound → cond (ltb k r) x y .mark ≡ raceFound
+wild-so k r x y h e = rw (lt-ltb k r h) e
+
+-- A data access: a byte more is moved.
+moved-so : (q : Queue) (c : Core) (n : ℕ) (rest : List ℕ) (w k i byte : ℕ) (slots feed out : List ℕ) → Stands (q .side c) (n ∷ rest) (moving i) w k
+    → Turned q (record { side = movedOn q c n rest i byte; slots = slots; feed = feed; out = out }) c (n ∷ rest) (moving (suc i)) w k
+moved-so q c n rest w k i byte slots feed out h = record {
+  mine = kept (with-mine (q .side) c _) (record { batches-are = refl; phase-is = refl; own-is = h .own-is; cached-is = h .cached-is });
+  theirs = with-theirs (q .side) c _;
+}
+
+module _ (g : Shape) (q : Queue) (t : Trace) (es : List Entry) (n : ℕ) (rest : List ℕ) (w k i y : ℕ) (e : (w + i) % g .size ≡ y) (l : i < n) where
+  to-store : Stands (q .side core0) (n ∷ rest) (moving i) w k → plan g theRing core0 q t 0 ≡ dataStore theRing core0 q n rest i y
+  to-store h =
+      of-phase g q t es core0 n rest w k h
+      ∙ ap (λ b. cond b (dataAccess g theRing core0 q t n rest i) (indexStore g theRing core0 q n rest)) (lt-ltb i n l)
+      ∙ ap (dataStore theRing core0 q n rest i) (ap (λ z. slotOf g z i) (h .own-is) ∙ e)
+
+  to-load : Stands (q .side core1) (n ∷ rest) (moving i) w k → plan g theRing core1 q t 0 ≡ dataLoad theRing core1 q t n rest i y
+  to-load h =
+      of-phase g q t es core1 n rest w k h
+      ∙ ap (λ b. cond b (dataAccess g theRing core1 q t n rest i) (indexStore g theRing core1 q n rest)) (lt-ltb i n l)
+      ∙ ap (dataLoad theRing core1 q t n rest i) (ap (λ z. slotOf g z i) (h .own-is) ∙ e)
+
+  -- A data store in order, and one that races.
+  pub store-turn : Stands (q .side core0) (n ∷ rest) (moving i) w k → rival t core0 (slot theRing y) true ≤ know (g .orders) t core0
+      → ((q′ : Queue) (byte : ℕ) → Turned q q′ core0 (n ∷ rest) (moving (suc i)) w k → Racy g (going q′ (store core0 (slot theRing y) byte ∷ t)) es)
+      → Racy g (going q t) (entry core0 ∷ es)
+  store-turn h calm next =
+      let byte = getD (q .feed) 0 0 in
+      let z : Queue = record { side = movedOn q core0 n rest i byte; slots = set (q .slots) y byte; feed = drop 1 (q .feed); out = q .out } in
+      turn g q t core0 es (dataStore theRing core0 q n rest i y) (performed dataStored (store core0 (slot theRing y) byte) z) (to-store h)
+      (calm-so (g .orders) core0 q t (slot theRing y) (store core0 (slot theRing y) byte) dataStored z calm) refl
+      (next z byte (moved-so q core0 n rest w k i byte (set (q .slots) y byte) (drop 1 (q .feed)) (q .out) h))
+
+  pub store-races : Stands (q .side core0) (n ∷ rest) (moving i) w k → know (g .orders) t core0 < rival t core0 (slot theRing y) true
+      → Racy g (going q t) (entry core0 ∷ es)
+  store-races h wild =
+      racy-now g (going q t) (entry core0) es (ap (λ p. decided (g .orders) core0 q t p .mark) (to-store h) ∙ wild-so (know (g .orders) t core0) _ _ _ wild refl)
+
+  -- A data load in order, and one that races.
+  pub load-turn : Stands (q .side core1) (n ∷ rest) (moving i) w k → rival t core1 (slot theRing y) false ≤ know (g .orders) t core1
+      → ((q′ : Queue) (s : ℕ) → Turned q q′ core1 (n ∷ rest) (moving (suc i)) w k → Racy g (going q′ (load core1 (slot theRing y) s ∷ t)) es)
+      → Racy g (going q t) (entry core1 ∷ es)
+  load-turn h calm next =
+      let byte = getD (q .slots) y 0 in
+      let a = load core1 (slot theRing y) (latest t (slot theRing y)) in
+      let z : Queue = record { side = movedOn q core1 n rest i byte; slots = q .slots; feed = q .feed; out = q .out ++ (byte ∷ []) } in
+      turn g q t core1 es (dataLoad theRing core1 q t n rest i y) (performed dataLoaded a z) (to-load h)
+      (calm-so (g .orders) core1 q t (slot theRing y) a dataLoaded z calm) refl
+      (next z (latest t (slot theRing y)) (moved-so q core1 n rest w k i byte (q .slots) (q .feed) (q .out ++ (byte ∷ [])) h))
+
+  pub load-races : Stands (q .side core1) (n ∷ rest) (moving i) w k → know (g .orders) t core1 < rival t core1 (slot theRing y) false
+      → Racy g (going q t) (entry core1 ∷ es)
+  load-races h wild =
+      racy-now g (going q t) (entry core1) es (ap (λ p. decided (g .orders) core1 q t p .mark) (to-load h) ∙ wild-so (know (g .orders) t core1) _ _ _ wild refl)
