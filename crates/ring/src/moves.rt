@@ -4,11 +4,11 @@ use crate::room::is_short;
 use crate::state::Core;
 use crate::state::Ring;
 use crate::state::Slot;
+use crate::state::Store;
 use crate::state::Stores;
 ghost use mathlib.Core.Path.{_≡_};
 ghost use Prim.Native.Nat.{_+_, _*_, _<_, _≤_};
-ghost use lib.ListN.{getD};
-ghost use Rattle.ring.specs.computed.State.{newestOf, placeOf, chosen, coreAt, Bounded, Short};
+ghost use Rattle.ring.specs.computed.State.{storeAt, newestOf, placeOf, chosen, coreAt, Bounded, Short};
 ghost use Rattle.ring.specs.computed.Moves.{leadOf, syncsOf, learntOf, slotOf, phaseAfter, foreignMark, accessMark, ifRaces, rivalOf, accessed, ownLoaded, foreignLoaded, movedOn, completed, ownLoad, foreignLoad, dataAccess, indexStore};
 
 impl Ring {
@@ -32,13 +32,18 @@ impl Ring {
         requires { ⌜ (who < 2) × ((age < chosen who (self .front) (self .back) .count) × (Short (self .back) × (Short (self .front) × Bounded (coreAt self who)))) ⌝ }
         ensures { λ next. ⌜ next ≡ foreignLoad self who age ⌝ }
     {
-        let value = foreign_value(who, age, self.back, self.front);
-        let entry = foreign_entry(who, age, self.back, self.front);
+        let read = foreign_store(who, age, self.back, self.front);
         let mut cores = self.cores;
         let c = cores[who];
-        let short = is_short(lead(who, self.size), self.modulus, c.size, c.own, value);
-        let known = learnt(syncs(self.bits, who), c.known, entry);
-        cores[who] = c.foreign_loaded(value, known, short);
+        let short = is_short(
+            lead(who, self.size),
+            self.modulus,
+            c.size,
+            c.own,
+            read.value,
+        );
+        let known = learnt(syncs(self.bits, who), c.known, read.entry);
+        cores[who] = c.foreign_loaded(read.value, known, short);
         self.cores = cores;
         self.mark = foreign_mark(short);
         self
@@ -278,28 +283,15 @@ fn own_value(who: usize, back: Stores, front: Stores) -> u16
     front.newest()
 }
 
-// The value of the other core's store that lies age places before its newest.
-fn foreign_value(who: usize, age: u8, back: Stores, front: Stores) -> u16
+// The other core's store that lies age places before its newest.
+fn foreign_store(who: usize, age: u8, back: Stores, front: Stores) -> Store
     requires { ⌜ (age < chosen who front back .count) × (Short back × Short front) ⌝ }
-    ensures { λ r. ⌜ r ≡ getD (chosen who front back .values) (placeOf (chosen who front back) age) 0 ⌝ }
+    ensures { λ r. ⌜ r ≡ storeAt (chosen who front back) (placeOf (chosen who front back) age) ⌝ }
 {
     if who == 0 {
         let place = front.count as usize - 1 - age as usize;
-        return front.value_at(place);
+        return front.store_at(place);
     }
     let place = back.count as usize - 1 - age as usize;
-    back.value_at(place)
-}
-
-// The entry that stored it.
-fn foreign_entry(who: usize, age: u8, back: Stores, front: Stores) -> u16
-    requires { ⌜ (age < chosen who front back .count) × (Short back × Short front) ⌝ }
-    ensures { λ r. ⌜ r ≡ getD (chosen who front back .entries) (placeOf (chosen who front back) age) 0 ⌝ }
-{
-    if who == 0 {
-        let place = front.count as usize - 1 - age as usize;
-        return front.entry_at(place);
-    }
-    let place = back.count as usize - 1 - age as usize;
-    back.entry_at(place)
+    back.store_at(place)
 }

@@ -9,6 +9,12 @@ pub(crate) struct Slot {
     pub(crate) loaded: u16,
 }
 
+// A store of an index: its value, and the entry that made it.
+pub(crate) struct Store {
+    pub(crate) value: u16,
+    pub(crate) entry: u16,
+}
+
 // The stores of one index, oldest first: the values, the entries that stored them, and how many there are.
 pub(crate) struct Stores {
     pub(crate) values: [u16; Ring::STORES],

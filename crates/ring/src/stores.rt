@@ -1,10 +1,10 @@
 // The list of an index's stores. Each array is taken into a local before it is indexed, so that the compiler can keep the state apart.
 use crate::state::Ring;
+use crate::state::Store;
 use crate::state::Stores;
 ghost use mathlib.Core.Path.{_≡_};
 ghost use Prim.Native.Nat.{_<_, _≤_};
-ghost use lib.ListN.{getD};
-ghost use Rattle.ring.specs.computed.State.{freshStores, pushed, newestOf, laterKnown};
+ghost use Rattle.ring.specs.computed.State.{freshStores, pushed, storeAt, newestOf, laterKnown};
 
 impl Stores {
     // The initial store alone.
@@ -35,22 +35,17 @@ impl Stores {
         self
     }
 
-    // The value at a place of the list.
-    pub(crate) fn value_at(self, place: usize) -> u16
+    // The store at a place of the list.
+    pub(crate) fn store_at(self, place: usize) -> Store
         requires { ⌜ place < 256 ⌝ }
-        ensures { λ r. ⌜ r ≡ getD (self .values) place 0 ⌝ }
+        ensures { λ r. ⌜ r ≡ storeAt self place ⌝ }
     {
         let values = self.values;
-        values[place]
-    }
-
-    // The entry that stored it.
-    pub(crate) fn entry_at(self, place: usize) -> u16
-        requires { ⌜ place < 256 ⌝ }
-        ensures { λ r. ⌜ r ≡ getD (self .entries) place 0 ⌝ }
-    {
         let entries = self.entries;
-        entries[place]
+        Store {
+            value: values[place],
+            entry: entries[place],
+        }
     }
 
     // The value of the latest store.
@@ -59,7 +54,8 @@ impl Stores {
         ensures { λ r. ⌜ r ≡ newestOf self ⌝ }
     {
         let place = self.count as usize - 1;
-        self.value_at(place)
+        let values = self.values;
+        values[place]
     }
 
     // Is a store hidden: has one later than its place an entry within the core's record?

@@ -6,6 +6,7 @@ use lib.Dec.{eqb, ltb, leb}
 use lib.ListN.{getD, set, replicate}
 use Rattle.model.specs.File.{ringSize, modulusOf, orderBits}
 use Rattle.ring.specs.declared.state.Slot.{Slot}
+use Rattle.ring.specs.declared.state.Store.{Store}
 use Rattle.ring.specs.declared.state.Stores.{Stores}
 use Rattle.ring.specs.declared.state.Core.{Core}
 use Rattle.ring.specs.declared.state.Ring.{Ring}
@@ -44,6 +45,10 @@ freshOf f = freshRing (ringSize f) (modulusOf f) (orderBits f)
 -- The list with one store more.
 abbrev pub pushed : Stores → (value entry : ℕ) → Stores
 pushed l value entry = record { values = set (l .values) (l .count) value; entries = set (l .entries) (l .count) entry; count = l .count + 1 }
+
+-- The store at a place.
+abbrev pub storeAt : Stores → (place : ℕ) → Store
+storeAt l place = record { value = getD (l .values) place 0; entry = getD (l .entries) place 0 }
 
 -- The place of the store that lies age places before the newest, and the newest one's value.
 abbrev pub placeOf : Stores → (age : ℕ) → ℕ

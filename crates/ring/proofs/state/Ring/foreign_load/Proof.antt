@@ -3,11 +3,8 @@ use borrow.Author.Needs.{needs}
 use Rattle.ring.proofs.state.Ring.foreign_load.Statement.{statement}
 use Rattle.ring.proofs.state.Ring.foreign_load.Tie as tie
 
-foreign-value-requires : tie.Need-foreign-value-requires
-foreign-value-requires c κs = search needs
-
-foreign-entry-requires : tie.Need-foreign-entry-requires
-foreign-entry-requires c κs = search needs
+foreign-store-requires : tie.Need-foreign-store-requires
+foreign-store-requires c κs = search needs
 
 mul-c : tie.Need-mul-c
 mul-c c = search needs
@@ -49,16 +46,14 @@ returns c =
       c .before .before .before .syncs .ensures,
       c .before .before .before .before .is-short .ensures,
       c .before .before .before .before .before .lead .ensures,
-      c .before .before .before .before .before .before .before .before .foreign-entry .ensures,
-      c .before .before .before .before .before .before .before .before .before .foreign-value .ensures,
+      c .before .before .before .before .before .before .before .before .foreign-store .ensures,
     )
 
 pub foreign-load-spec : {M : Type 1} → statement M
 foreign-load-spec =
     tie.close
     (tie.spec
-    foreign-value-requires
-    foreign-entry-requires
+    foreign-store-requires
     mul-c
     array-copy-out-c
     lead-requires
