@@ -68,6 +68,8 @@ hand("r9", "each refusal but 130 and 134", 15, [2], [], P(1, 1) + P() + P(1, 1) 
      [132, 1, 133, 3, 131, 129], [2, 4, 0, 0, 0, 0, 1, 0, 0, 0], [])
 hand("older_after_newer", "a relaxed load reads an older store after a newer one: not hidden", 11, [1], [2, 2], P(3) + C(3) + C(1, 1),
      [1, 4, 6, 1, 3, 1, 3], [7, 0, 1, 0, 0, 1, 0, 2, 0, 0], [])
+hand("race_after_refusals", "r2 with two refused entries first: the race is told by its place in the whole schedule", 13, [1], [1], [(2, 0)] + P(1, 1) + P(3) + C(4),
+     [129, 132, 1, 4, 6, 1, 2, 7, 130], [6, 3, 1, 0, 0, 1, 0, 0, 8, 4], [])
 
 # Sizes: empty files, so that only the code is at stake.
 EMPTY = [0] * 10
