@@ -172,49 +172,10 @@ mod tests {
         let mut file = head(1, 2);
         file[7] = 1;
         file.extend([2, 1, 0]);
-        assert_eq!(
-            code(
-                &file,
-                Lent {
-                    marks: 0,
-                    out: 1,
-                    report: 39
-                }
-            ),
-            9
-        );
-        assert_eq!(
-            code(
-                &file,
-                Lent {
-                    marks: 1,
-                    out: 1,
-                    report: 39
-                }
-            ),
-            10
-        );
-        assert_eq!(
-            code(
-                &file,
-                Lent {
-                    marks: 1,
-                    out: 2,
-                    report: 39
-                }
-            ),
-            11
-        );
-        assert_eq!(
-            code(
-                &file,
-                Lent {
-                    marks: 1,
-                    out: 2,
-                    report: 40
-                }
-            ),
-            0
-        );
+        let lent = |marks, out, report| code(&file, Lent { marks, out, report });
+        assert_eq!(lent(0, 1, 39), 9);
+        assert_eq!(lent(1, 1, 39), 10);
+        assert_eq!(lent(1, 2, 39), 11);
+        assert_eq!(lent(1, 2, 40), 0);
     }
 }

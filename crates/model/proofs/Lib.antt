@@ -1,3 +1,4 @@
+-- The crate's laws and proofs, file by file.
 pub mod Codes
 pub mod Total
 pub mod Laid
@@ -13,3 +14,4 @@ pub mod Memory
 pub mod Report
 pub mod Worked
 pub mod Inverse
+pub mod Sides

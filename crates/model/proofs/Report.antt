@@ -126,11 +126,11 @@ does-changed o {c = c} {q = q} (completing n rest i eb ep l) x d =
 
 -- Results that end no batch of core c, and those that do.
 
-none-left : (c : Core) (xs : List Result) → completedOf {A = ℕ} c xs [] ≡ []
+none-left : {A : Type 0} (c : Core) (xs : List Result) → completedOf {A = A} c xs [] ≡ []
 none-left c [] = refl
 none-left c (x ∷ xs) = refl
 
-passes : (c : Core) (x : Result) (xs : List Result) (bs : List ℕ) → markedOf c batchFailed x ≡ false → markedOf c indexStored x ≡ false
+pub passes : {A : Type 0} (c : Core) (x : Result) (xs : List Result) (bs : List A) → markedOf c batchFailed x ≡ false → markedOf c indexStored x ≡ false
     → completedOf c (x ∷ xs) bs ≡ completedOf c xs bs
 passes c x xs [] e k = sym (none-left c xs)
 passes c x xs (b ∷ bs) e k = rw (e, k)

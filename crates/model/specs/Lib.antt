@@ -1,3 +1,4 @@
+-- The crate's definitions, file by file.
 pub mod Limits
 pub mod File
 pub mod Codes

@@ -1,3 +1,4 @@
+-- The crate's laws and proofs, file by file.
 pub mod Trace
 pub mod Chain
 pub mod Record

@@ -62,6 +62,10 @@ pub other-ne : (c : Core) → other c ≡ c → ⊥
 other-ne core0 e = clash (cc)
 other-ne core1 e = clash (cc)
 
+pub same-other : (c : Core) → sameCore (other c) c ≡ false
+same-other core0 = refl
+same-other core1 = refl
+
 pub same-self : (c : Core) → sameCore c c ≡ true
 same-self core0 = refl
 same-self core1 = refl

@@ -1,3 +1,4 @@
+-- The crate's definitions, file by file.
 pub mod Trace
 pub mod Order
 pub mod Hidden

@@ -1,3 +1,4 @@
+-- The crate's laws and proofs, file by file.
 pub mod Wrap
 pub mod Count
 pub mod Log

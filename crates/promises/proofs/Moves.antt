@@ -14,7 +14,7 @@ use Rattle.order.specs.Trace.{Core, core0, core1, other, sameCore, Ring, index,
 use Rattle.order.specs.Hidden.{Hidden}
 use Rattle.order.specs.Race.{RacesWith}
 use Rattle.order.specs.computed.Record.{know}
-use Rattle.order.proofs.Trace.{clash, cond-elim, and-false, other-other, storesTo-self, stores-are, latest-is, StoreOf, newest, older, at}
+use Rattle.order.proofs.Trace.{clash, cond-elim, and-false, other-other, same-other, storesTo-self, stores-are, latest-is, StoreOf, newest, older, at}
 use Rattle.order.proofs.Chain.{Fits, Formed}
 use Rattle.order.proofs.Record.{AccessOf}
 use Rattle.model.specs.Queue.{Shape, Phase, start, reload, moving, Side, Queue, withSide, pushes, lead, isShort, roomOf}
@@ -23,6 +23,7 @@ use Rattle.model.specs.Marks.{ownLoaded, foreignLoaded, batchFailed, dataStored
 use Rattle.model.specs.Run.{Result, refused, performed, raced, Does}
 use Rattle.model.specs.Report.{one}
 use Rattle.model.proofs.Plan.{Planned, no-batch, no-age, past, owning, failing, keeping, storing, loading, completing}
+use Rattle.model.proofs.Sides.{with-same, with-other}
 use Rattle.model.proofs.Slots.{held, held-kept, held-new}
 use Rattle.promises.proofs.Count.{counts, counts-self, made, upTo, upTo-grow}
 use Rattle.promises.proofs.Log.{Strong, Quiet, log-quiet, log-access, log-store, store-value, store-le, Seen, seen-old, seen-new}
@@ -55,18 +56,6 @@ each P core0 a b core0 = a
 each P core0 a b core1 = b
 each P core1 a b core0 = b
 each P core1 a b core1 = a
-
-side-self : (f : Core → Side) (c : Core) (s : Side) → withSide f c s c ≡ s
-side-self f core0 s = refl
-side-self f core1 s = refl
-
-side-other : (f : Core → Side) (c : Core) (s : Side) → withSide f c s (other c) ≡ f (other c)
-side-other f core0 s = refl
-side-other f core1 s = refl
-
-same-other : (c : Core) → sameCore (other c) c ≡ false
-same-other core0 = refl
-same-other core1 = refl
 
 -- No store of another ring's index.
 abbrev Here : Ring → Act → Type 0
@@ -353,7 +342,7 @@ module _ (g : Shape) (r : Ring) (l : Sizes g) (t : Trace) (q : Queue) (I : Invar
         go-on a z (afterByte byte) refl tt (λ d e p v u. clash (cc)) (quiet-access c r y a (inr (byte, refl)))
         (data-half h a tt (inr (byte, refl)) refl (sym k) nr byte)
         (each (λ d. pushes r d ≡ true → Flows (z .slots) (z .out) (a ∷ t) d (other d) (z .side d) (z .side (other d))) c
-        (λ e. rw (side-self (q .side) c (afterByte byte), side-other (q .side) c (afterByte byte)) (put-flow h k byte))
+        (λ e. rw (with-same (q .side) c (afterByte byte), with-other (q .side) c (afterByte byte)) (put-flow h k byte))
         (λ e. elim (leads-of g r c) [ pusher u v w x ↦ clash (cc) | popper u v w x ↦ clash (cc) ]))
 
     -- A pop takes the first byte that is not yet out.
@@ -388,7 +377,7 @@ module _ (g : Shape) (r : Ring) (l : Sizes g) (t : Trace) (q : Queue) (I : Invar
         (data-half h a (latest-is t (slot r y)) (inl (s, refl)) refl (sym k) nr byte)
         (each (λ d. pushes r d ≡ true → Flows (z .slots) (z .out) (a ∷ t) d (other d) (z .side d) (z .side (other d))) c
         (λ e. clash (cc))
-        (λ e. rw (other-other c, side-self (q .side) c (afterByte byte), side-other (q .side) c (afterByte byte)) (get-flow h k e s)))
+        (λ e. rw (other-other c, with-same (q .side) c (afterByte byte), with-other (q .side) c (afterByte byte)) (get-flow h k e s)))
 
   -- An entry keeps the invariant unless it races, and with strong orders it does not.
   pub record Goes (x : Result) : Type 0 where

@@ -19,6 +19,7 @@ use Rattle.model.specs.Plan.{Plan, refuse, perform, unless-hidden, unless-race,
 use Rattle.model.specs.Run.{Result, refused, performed, Does, State, coreOf, theRing, Entered, Runs, stop, move, shapeOf, fresh}
 use Rattle.model.specs.Report.{markedOf, completedOf}
 use Rattle.model.proofs.Plan.{Planned, no-batch, no-age, past, owning, failing, keeping, storing, loading, completing, planned}
+use Rattle.model.proofs.Report.{passes}
 use Rattle.model.proofs.Laid.{lawful-laid}
 use Rattle.promises.specs.Batches.{batchesOf, joined}
 
@@ -51,19 +52,13 @@ record Kept (q : Queue) (x : Result) : Type 0 where
 
 -- ENTRIES THAT END NO BATCH of core 0.
 
-ends-none : (x : Result) (xs : List Result) (bs : List (List ℕ)) → markedOf core0 batchFailed x ≡ false → markedOf core0 indexStored x ≡ false
-    → completedOf core0 (x ∷ xs) bs ≡ completedOf core0 xs bs
-ends-none x [] [] e k = refl
-ends-none x (y ∷ xs) [] e k = refl
-ends-none x xs (b ∷ bs) e k = rw (e, k)
-
 -- The batches, the completed bytes and the bytes ahead stay.
 goes-on : (q : Queue) (x : Result) → markedOf core0 batchFailed x ≡ false → markedOf core0 indexStored x ≡ false
     → pusher (x .queue) .batches ≡ pusher q .batches → pusher (x .queue) .completed ≡ pusher q .completed
     → (Sound q → SoundAt (pusher (x .queue)) (pusher (x .queue) .phase)) → (Sound q → ahead (x .queue) ≡ ahead q) → Kept q x
 goes-on q x e k b c h f = record {
   sound = λ s. record { at = h s; enough = rw (b, f s) (s .enough) };
-  owed = λ s xs. rw (b, c, f s, ends-none x xs (batchesOf (pusher q .batches) (ahead q)) e k);
+  owed = λ s xs. rw (b, c, f s, passes core0 x xs (batchesOf (pusher q .batches) (ahead q)) e k);
 }
 
 -- Core 0's side and the bytes to push are left alone.

@@ -12,11 +12,12 @@ use Rattle.order.specs.Order.{Orders}
 use Rattle.order.specs.computed.Record.{know, newer, rival}
 use Rattle.model.specs.File.{Entry}
 use Rattle.model.specs.Marks.{foreignLoaded, dataStored, dataLoaded, raceFound, storeHidden}
-use Rattle.model.specs.Queue.{Shape, Phase, start, reload, moving, Side, Queue, withSide, isShort}
+use Rattle.model.specs.Queue.{Shape, Phase, start, reload, moving, Side, Queue, isShort}
 use Rattle.model.specs.Plan.{Plan, unless-race, turned, ownLoad, foreignLoadOf, failBatch, keepBatch, dataStore, dataLoad, dataAccess, slotOf, movedOn, indexStore, inBatch, ofBatches, plan}
 use Rattle.model.specs.Run.{Result, refused, performed, State, after, theRing}
 use Rattle.model.specs.Report.{raceFrom}
 use Rattle.model.specs.computed.Machine.{decided, step, results}
+use Rattle.model.proofs.Sides.{with-same, with-other}
 
 -- The machine, not halted.
 abbrev pub going : Queue → Trace → State
@@ -68,20 +69,12 @@ pub record Turned (q q′ : Queue) (c : Core) (l : List ℕ) (p : Phase) (own ca
 pub kept : {a b : Side} {l : List ℕ} {p : Phase} {own cached : ℕ} → b ≡ a → Stands a l p own cached → Stands b l p own cached
 kept {l = l} {p = p} {own = own} {cached = cached} e h = subst (λ (s : Side). Stands s l p own cached) (sym e) h
 
-with-mine : (f : Core → Side) (c : Core) (me : Side) → withSide f c me c ≡ me
-with-mine f core0 me = refl
-with-mine f core1 me = refl
-
-with-theirs : (f : Core → Side) (c : Core) (me : Side) → withSide f c me (other c) ≡ f (other c)
-with-theirs f core0 me = refl
-with-theirs f core1 me = refl
-
 not-newer : (s k : ℕ) → newer (s ∷ 0 ∷ []) s k ≡ false
 not-newer s k = rw (le-ltb s s (omega arith), le-ltb s 0 (omega arith))
 
 turned-so : (q : Queue) (c : Core) (me : Side) (feed : List ℕ) {l : List ℕ} {p : Phase} {own cached : ℕ} → Stands me l p own cached
     → Turned q (turned q c me feed) c l p own cached
-turned-so q c me feed h = record { mine = kept (with-mine (q .side) c me) h; theirs = with-theirs (q .side) c me }
+turned-so q c me feed h = record { mine = kept (with-same (q .side) c me) h; theirs = with-other (q .side) c me }
 
 module _ (g : Shape) (q : Queue) (t : Trace) (es : List Entry) (c : Core) (n : ℕ) (rest : List ℕ) (w k : ℕ) where
   of-phase : {p : Phase} → Stands (q .side c) (n ∷ rest) p w k → plan g theRing c q t 0 ≡ inBatch g theRing c q t 0 n rest p
@@ -158,8 +151,8 @@ wild-so k r x y h e = rw (lt-ltb k r h) e
 moved-so : (q : Queue) (c : Core) (n : ℕ) (rest : List ℕ) (w k i byte : ℕ) (slots feed out : List ℕ) → Stands (q .side c) (n ∷ rest) (moving i) w k
     → Turned q (record { side = movedOn q c n rest i byte; slots = slots; feed = feed; out = out }) c (n ∷ rest) (moving (suc i)) w k
 moved-so q c n rest w k i byte slots feed out h = record {
-  mine = kept (with-mine (q .side) c _) (record { batches-are = refl; phase-is = refl; own-is = h .own-is; cached-is = h .cached-is });
-  theirs = with-theirs (q .side) c _;
+  mine = kept (with-same (q .side) c _) (record { batches-are = refl; phase-is = refl; own-is = h .own-is; cached-is = h .cached-is });
+  theirs = with-other (q .side) c _;
 }
 
 module _ (g : Shape) (q : Queue) (t : Trace) (es : List Entry) (n : ℕ) (rest : List ℕ) (w k i y : ℕ) (e : (w + i) % g .size ≡ y) (l : i < n) where

@@ -1,3 +1,4 @@
+-- The crate's definitions, file by file.
 pub mod Batches
 pub mod Strong
 pub mod Call

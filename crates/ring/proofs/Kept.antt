@@ -8,9 +8,10 @@ use native.Mathlib.Omega.{arith}
 use lib.Dec.{eqb}
 use lib.ListN.{getD, set, length, drop, length-set}
 use borrow.Author.Tests.{ne-eqb, eqb-true}
-use Rattle.order.specs.Trace.{Core, core0, core1, other, sameCore, index, Act, idle, next, who, storesTo}
+use Rattle.order.specs.Trace.{Core, core0, core1, other, index, Act, idle, next, who, storesTo}
 use Rattle.order.specs.computed.Record.{learn}
-use Rattle.order.proofs.Trace.{clash, or-false, and-false, and-with, same-self}
+use Rattle.order.proofs.Trace.{clash, or-false, and-false, and-with, same-other, same-self}
+use Rattle.model.proofs.Sides.{with-same, with-other}
 use Rattle.model.specs.File.{ringSize, modulusOf, orderBits, pushBytes, ordersOf}
 use Rattle.model.specs.Marks.{batchFailed, raceFound, noSuchCore}
 use Rattle.model.specs.Queue.{Side, Queue, withSide}
@@ -96,18 +97,6 @@ pub record Moves (f : List ℕ) (s s′ : Ring) (st : State) (c : Core) (a : Act
   pub out-new : length (q .out) ≡ coreAt s′ 1 .done + coreAt s′ 1 .moved
   pub failed-new : d .failed ≡ coreAt s (num c) .failed + one (eqb mark batchFailed)
 
-with-same : (h : Core → Side) (c : Core) (me : Side) → withSide h c me c ≡ me
-with-same h core0 me = refl
-with-same h core1 me = refl
-
-with-other : (h : Core → Side) (c : Core) (me : Side) → withSide h c me (other c) ≡ h (other c)
-with-other h core0 me = refl
-with-other h core1 me = refl
-
-apart : (c : Core) → sameCore (other c) c ≡ false
-apart core0 = refl
-apart core1 = refl
-
 pub moved-kept : {f : List ℕ} {s s′ : Ring} {st : State} {xs : List Result} {c : Core} {a : Act} {mark : ℕ} {q : Queue} {d : rc.Core} {me : Side}
     → Rep f s st xs → st .halted ≡ false → Moves f s s′ st c a mark q d me
     → Rep f s′ (after st (performed mark a q)) (xs ++ (performed mark a q ∷ []))
@@ -144,7 +133,7 @@ moved-kept {f} {s} {s′} {st} {xs} {c} {a} {mark} {q} {d} {me} r h m =
           let w : coreAt s′ (num c) .failed ≡ d .failed = ap (λ (b : rc.Core). b .failed) mine in
           omega (arith, r .failed-is c, m .failed-new))
           (let k = count-more (markedOf (other c) batchFailed) xs x in
-          let z : one (markedOf (other c) batchFailed x) ≡ 0 = rw (m .acts, apart c, and-false (eqb mark batchFailed)) in
+          let z : one (markedOf (other c) batchFailed x) ≡ 0 = rw (m .acts, same-other c, and-false (eqb mark batchFailed)) in
           let w : coreAt s′ (num (other c)) .failed ≡ coreAt s (num (other c)) .failed = ap (λ (b : rc.Core). b .failed) theirs in
           omega (arith, r .failed-is (other c)));
       race-is = m .race-same ∙ sym race0 ∙ r .race-is ∙ sym (still .0);

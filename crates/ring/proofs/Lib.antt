@@ -1,3 +1,4 @@
+-- The crate's laws and proofs, file by file.
 pub mod Buffers
 pub mod Cells
 pub mod Data

@@ -1,3 +1,4 @@
+-- The function `learnt` of src/moves.rt meets its contract.
 use borrow.Author.Tests.{lt-ltb, le-ltb}
 use Rattle.ring.specs.computed.Moves.{learntOf}
 use Rattle.ring.proofs.moves.learnt.Statement.{statement}

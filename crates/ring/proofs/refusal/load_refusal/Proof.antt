@@ -1,3 +1,4 @@
+-- The function `load_refusal` of src/refusal.rt meets its contract.
 use borrow.Author.Tests.{le-leb, lt-leb}
 use mathlib.Core.Path.{_∙_, sym}
 use Rattle.ring.specs.computed.Refusal.{loadRefusal}

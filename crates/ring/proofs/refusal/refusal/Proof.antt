@@ -1,3 +1,4 @@
+-- The function `refusal` of src/refusal.rt meets its contract.
 use borrow.Author.Tests.{lt-ltb, le-ltb, le-leb, lt-leb, eq-eqb, ne-eqb}
 use Rattle.ring.specs.computed.State.{chosen}
 use Rattle.ring.specs.computed.Refusal.{refusalOf}

@@ -1,3 +1,4 @@
+-- The function `numbers` of src/report.rt meets its contract.
 use native.Mathlib.Omega.{arith}
 use Rattle.ring.specs.computed.Report.{tenOf}
 use borrow.Author.Needs.{needs}

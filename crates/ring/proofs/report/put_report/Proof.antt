@@ -1,3 +1,4 @@
+-- The function `put_report` of src/report.rt meets its contract.
 use native.Mathlib.Omega.{arith}
 use mathlib.Core.Path.{_∙_}
 use Prim.Native.Nat.{_-_, _≤_}

@@ -1,3 +1,4 @@
+-- The function `is_short` of src/room.rt meets its contract.
 use native.Mathlib.Nat.{mod-zero}
 use borrow.Author.Needs.{needs}
 use Rattle.ring.proofs.room.is_short.Statement.{statement}

@@ -1,3 +1,4 @@
+-- The method `foreign_loaded` of `Core` meets its contract.
 use Rattle.ring.specs.computed.Moves.{foreignLoaded}
 use borrow.Author.Needs.{needs}
 use Rattle.ring.proofs.state.Core.foreign_loaded.Statement.{statement}

@@ -1,3 +1,4 @@
+-- The method `foreign_load` of `Ring` meets its contract.
 use Rattle.ring.specs.computed.Moves.{foreignLoad}
 use borrow.Author.Needs.{needs}
 use Rattle.ring.proofs.state.Ring.foreign_load.Statement.{statement}

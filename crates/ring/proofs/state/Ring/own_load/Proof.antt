@@ -1,3 +1,4 @@
+-- The method `own_load` of `Ring` meets its contract.
 use Rattle.ring.specs.computed.Moves.{ownLoad}
 use borrow.Author.Needs.{needs}
 use Rattle.ring.proofs.state.Ring.own_load.Statement.{statement}
