@@ -10,7 +10,8 @@ ghost use Prim.Native.Nat.{_<_};
 ghost use lib.ListN.{length};
 ghost use Rattle.ring.specs.computed.Run.{whoOf, nextPlace, putByte, Ready, Finished};
 
-// Each entry in turn: refused with its mark, or the move that its core's phase chooses.
+// Each entry in turn: refused with its mark, or the move that its core's phase chooses. Each arm hands the state back to where it was, so that
+// the compiler copies no part of it but what the move changes.
 pub(crate) fn run(file: &[u8], at: usize, n: usize, marks: &mut [u8], out: &mut [u8]) -> Ran
     requires { ⌜ Ready (now file) at n (length (now marks)) (length (now out)) ⌝ }
     ensures { λ r. ⌜ Finished (now (file .entry)) n (now (marks .entry)) (now (out .entry)) r (now (marks .exit)) (now (out .exit)) ⌝ }
@@ -42,15 +43,22 @@ pub(crate) fn run(file: &[u8], at: usize, n: usize, marks: &mut [u8], out: &mut 
         }
         let entry = (i + 1) as u16;
         let phase = c.phase;
-        let next = match phase {
-            0 => ring.own_load(who, size_of(file, who, c.batch)),
-            1 => ring.foreign_load(who, age),
-            2 => ring.data_access(who, byte_for(file, who, c.passed, c.moved), entry),
-            _ => ring.index_store(who, entry),
-        };
-        marks[i] = next.mark;
-        k = keep_byte(out, k, next.mark, next.byte);
-        ring = next;
+        match phase {
+            0 => {
+                ring = ring.own_load(who, size_of(file, who, c.batch));
+            }
+            1 => {
+                ring = ring.foreign_load(who, age);
+            }
+            2 => {
+                ring = ring.data_access(who, byte_for(file, who, c.passed, c.moved), entry);
+            }
+            _ => {
+                ring = ring.index_store(who, entry);
+            }
+        }
+        marks[i] = ring.mark;
+        k = keep_byte(out, k, ring.mark, ring.byte);
         performed += 1;
         i += 1;
     }

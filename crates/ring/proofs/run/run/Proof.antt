@@ -116,7 +116,7 @@ index-store-requires : tie.Need-index-store-requires Inv-loop μ-loop
 index-store-requires c κs = (who-lt (c .before .before .before .before .before .before .before .before .before .before .loop .inv .fine) (c .before .before .before .before .before .before .before .before .before .before .loop .inv .going .rep) (getD (c .before .before .before .before .before .before .before .before .before .before .before .before .before .before .before .args .file .now) (c .before .before .before .before .before .before .before .before .before .before .before .before .before .before .before .args .at + 2 * c .before .before .before .before .before .before .before .before .before .before .loop .i) 0) (getD (c .before .before .before .before .before .before .before .before .before .before .before .before .before .before .before .args .file .now) (c .before .before .before .before .before .before .before .before .before .before .before .before .before .before .before .args .at + 2 * c .before .before .before .before .before .before .before .before .before .before .loop .i + 1) 0) (goes (c .before)) (c .before .before .before .before .before .before .who-of .result) (c .before .before .before .before .before .before .who-of .ensures .0), (modulus-pos (c .before .before .before .before .before .before .before .before .before .before .loop .inv .fine) (c .before .before .before .before .before .before .before .before .before .before .loop .inv .going .rep) (getD (c .before .before .before .before .before .before .before .before .before .before .before .before .before .before .before .args .file .now) (c .before .before .before .before .before .before .before .before .before .before .before .before .before .before .before .args .at + 2 * c .before .before .before .before .before .before .before .before .before .before .loop .i) 0) (getD (c .before .before .before .before .before .before .before .before .before .before .before .before .before .before .before .args .file .now) (c .before .before .before .before .before .before .before .before .before .before .before .before .before .before .before .args .at + 2 * c .before .before .before .before .before .before .before .before .before .before .loop .i + 1) 0) (goes (c .before)) (c .before .before .before .before .before .before .who-of .result) (c .before .before .before .before .before .before .who-of .ensures .0), (modulus-le (c .before .before .before .before .before .before .before .before .before .before .loop .inv .fine) (c .before .before .before .before .before .before .before .before .before .before .loop .inv .going .rep) (getD (c .before .before .before .before .before .before .before .before .before .before .before .before .before .before .before .args .file .now) (c .before .before .before .before .before .before .before .before .before .before .before .before .before .before .before .args .at + 2 * c .before .before .before .before .before .before .before .before .before .before .loop .i) 0) (getD (c .before .before .before .before .before .before .before .before .before .before .before .before .before .before .before .args .file .now) (c .before .before .before .before .before .before .before .before .before .before .before .before .before .before .before .args .at + 2 * c .before .before .before .before .before .before .before .before .before .before .loop .i + 1) 0) (goes (c .before)) (c .before .before .before .before .before .before .who-of .result) (c .before .before .before .before .before .before .who-of .ensures .0), (bounds (c .before .before .before .before .before .before .before .before .before .before .loop .inv .fine) (c .before .before .before .before .before .before .before .before .before .before .loop .inv .going .rep) (getD (c .before .before .before .before .before .before .before .before .before .before .before .before .before .before .before .args .file .now) (c .before .before .before .before .before .before .before .before .before .before .before .before .before .before .before .args .at + 2 * c .before .before .before .before .before .before .before .before .before .before .loop .i) 0) (getD (c .before .before .before .before .before .before .before .before .before .before .before .before .before .before .before .args .file .now) (c .before .before .before .before .before .before .before .before .before .before .before .before .before .before .before .args .at + 2 * c .before .before .before .before .before .before .before .before .before .before .loop .i + 1) 0) (goes (c .before)) (c .before .before .before .before .before .before .who-of .result) (c .before .before .before .before .before .before .who-of .ensures .0), count-lt (c .before .before .before .before .before .before .before .before .before .before .loop .inv .fine) (c .before .before .before .before .before .before .before .before .before .before .loop .inv .going .rep) (getD (c .before .before .before .before .before .before .before .before .before .before .before .before .before .before .before .args .file .now) (c .before .before .before .before .before .before .before .before .before .before .before .before .before .before .before .args .at + 2 * c .before .before .before .before .before .before .before .before .before .before .loop .i) 0) (getD (c .before .before .before .before .before .before .before .before .before .before .before .before .before .before .before .args .file .now) (c .before .before .before .before .before .before .before .before .before .before .before .before .before .before .before .args .at + 2 * c .before .before .before .before .before .before .before .before .before .before .loop .i + 1) 0) (goes (c .before)) (c .before .before .before .before .before .before .who-of .result) (c .before .before .before .before .before .before .who-of .ensures .0)))))
 
 -- The move that was made joins the definition's step, whichever arm was taken.
-joined : (c : lts.At-match-came claims reads.Pre reads.Post Inv-loop μ-loop) → Joined (c .before .before .before .before .before .before .before .before .before .before .before .before .before .before .before .args .file .now) (c .match .next) (endTo (c .before .before .before .before .before .before .before .before .before .before .before .before .before .before .before .args .file .now) (c .before .before .before .before .before .before .before .before .before .before .loop .i)) (resultsTo (c .before .before .before .before .before .before .before .before .before .before .before .before .before .before .before .args .file .now) (c .before .before .before .before .before .before .before .before .before .before .loop .i)) (step (shapeOf (c .before .before .before .before .before .before .before .before .before .before .before .before .before .before .before .args .file .now)) (endTo (c .before .before .before .before .before .before .before .before .before .before .before .before .before .before .before .args .file .now) (c .before .before .before .before .before .before .before .before .before .before .loop .i)) (record { core = (getD (c .before .before .before .before .before .before .before .before .before .before .before .before .before .before .before .args .file .now) (c .before .before .before .before .before .before .before .before .before .before .before .before .before .before .before .args .at + 2 * c .before .before .before .before .before .before .before .before .before .before .loop .i) 0); age = (getD (c .before .before .before .before .before .before .before .before .before .before .before .before .before .before .before .args .file .now) (c .before .before .before .before .before .before .before .before .before .before .before .before .before .before .before .args .at + 2 * c .before .before .before .before .before .before .before .before .before .before .loop .i + 1) 0) }))
+joined : (c : lts.At-match-came claims reads.Pre reads.Post Inv-loop μ-loop) → Joined (c .before .before .before .before .before .before .before .before .before .before .before .before .before .before .before .args .file .now) (c .match .ring) (endTo (c .before .before .before .before .before .before .before .before .before .before .before .before .before .before .before .args .file .now) (c .before .before .before .before .before .before .before .before .before .before .loop .i)) (resultsTo (c .before .before .before .before .before .before .before .before .before .before .before .before .before .before .before .args .file .now) (c .before .before .before .before .before .before .before .before .before .before .loop .i)) (step (shapeOf (c .before .before .before .before .before .before .before .before .before .before .before .before .before .before .before .args .file .now)) (endTo (c .before .before .before .before .before .before .before .before .before .before .before .before .before .before .before .args .file .now) (c .before .before .before .before .before .before .before .before .before .before .loop .i)) (record { core = (getD (c .before .before .before .before .before .before .before .before .before .before .before .before .before .before .before .args .file .now) (c .before .before .before .before .before .before .before .before .before .before .before .before .before .before .before .args .at + 2 * c .before .before .before .before .before .before .before .before .before .before .loop .i) 0); age = (getD (c .before .before .before .before .before .before .before .before .before .before .before .before .before .before .before .args .file .now) (c .before .before .before .before .before .before .before .before .before .before .before .before .before .before .before .args .at + 2 * c .before .before .before .before .before .before .before .before .before .before .loop .i + 1) 0) }))
 joined c = ⊎-elim
     (λ w. rw (w .3, w .2 .ensures, w .1 .ensures .0) (own-arm (c .before .before .before .before .before .before .before .before .before .before .loop .inv .fine) (c .before .before .before .before .before .before .before .before .before .before .loop .inv .going .rep) (getD (c .before .before .before .before .before .before .before .before .before .before .before .before .before .before .before .args .file .now) (c .before .before .before .before .before .before .before .before .before .before .before .before .before .before .before .args .at + 2 * c .before .before .before .before .before .before .before .before .before .before .loop .i) 0) (getD (c .before .before .before .before .before .before .before .before .before .before .before .before .before .before .before .args .file .now) (c .before .before .before .before .before .before .before .before .before .before .before .before .before .before .before .args .at + 2 * c .before .before .before .before .before .before .before .before .before .before .loop .i + 1) 0) (goes (c .before)) (c .before .before .before .before .before .before .who-of .result) (c .before .before .before .before .before .before .who-of .ensures .0) (w .0 .keys1)))
     (⊎-elim
