@@ -1,5 +1,8 @@
 //! The recorded actions of a run, and happens-before as reachability among them.
 
+#[cfg(feature = "library")]
+mod known;
+
 /// What an action does to memory. A load of the initial store reads from nothing recorded.
 #[derive(Clone, Copy, Debug, PartialEq)]
 pub enum Deed {
@@ -63,31 +66,37 @@ impl Actions {
 
     /// The arrow across the cores: the release store that an acquire load reads from.
     fn released_to(&self, deed: Deed) -> Option<usize> {
-        let Deed::ForeignLoad {
-            acquire: true,
-            from: Some(store),
-        } = deed
-        else {
-            return None;
-        };
-        (self.list[store].deed == Deed::IndexStore { release: true }).then_some(store)
+        match deed {
+            Deed::ForeignLoad {
+                acquire: true,
+                from,
+            } => from.filter(|&store| self.list[store].deed == Deed::IndexStore { release: true }),
+            _ => None,
+        }
     }
 
-    /// Searches backwards from an action not yet recorded, no further than `oldest`:
-    /// whatever lies beyond is older than all that is asked for and cannot lead to it.
+    /// What happens before an action not yet recorded.
     fn before(&self, action: Action, oldest: usize) -> Before {
-        let mut seen = vec![false; self.list.len() - oldest];
-        let mut open = vec![
+        let arrows = [
             self.newest_on_core[action.core],
             self.released_to(action.deed),
         ];
+        self.reached(arrows, oldest)
+    }
+
+    /// Searches backwards along the arrows into an action, no further than `oldest`:
+    /// whatever lies beyond is older than all that is asked for and cannot lead to it.
+    fn reached(&self, arrows: [Option<usize>; 2], oldest: usize) -> Before {
+        let mut seen = vec![false; self.list.len() - oldest];
+        let mut open = arrows.to_vec();
         while let Some(next) = open.pop() {
-            let Some(number) = next.filter(|&number| number >= oldest) else {
-                continue;
-            };
-            if !std::mem::replace(&mut seen[number - oldest], true) {
-                open.push(self.before_on_core[number]);
-                open.push(self.released_to(self.list[number].deed));
+            match next {
+                Some(number) if number >= oldest && !seen[number - oldest] => {
+                    seen[number - oldest] = true;
+                    open.push(self.before_on_core[number]);
+                    open.push(self.released_to(self.list[number].deed));
+                }
+                _ => {}
             }
         }
         Before { oldest, seen }
@@ -96,11 +105,10 @@ impl Actions {
     /// Axiom 2: a load may not read a store if one of the later stores of that index happens before the load.
     /// The initial stores are never later than another, so they need no place here.
     pub fn hides(&self, later: &[usize], load: Action) -> bool {
-        let Some(&oldest) = later.iter().min() else {
-            return false;
-        };
-        let before = self.before(load, oldest);
-        later.iter().any(|&store| before.has(store))
+        later.iter().min().map_or(false, |&oldest| {
+            let before = self.before(load, oldest);
+            later.iter().any(|&store| before.has(store))
+        })
     }
 
     /// The latest earlier access that a data access races with: same slot, other core,

@@ -4,7 +4,8 @@ use crate::make::make;
 use crate::print::play;
 use crate::smaller::smaller;
 use crate::tally::Tally;
-use std::io::Write;
+use std::io::{Error, ErrorKind, Write};
+use std::path::PathBuf;
 use std::process::{Command, Stdio};
 use std::sync::atomic::{AtomicBool, AtomicU64, Ordering};
 use std::sync::Mutex;
@@ -14,6 +15,9 @@ pub struct Compare {
     pub count: u64,
     /// How many files are played at a time.
     pub jobs: u64,
+    pub progress: bool,
+    /// Where a file with a difference is saved.
+    pub save: PathBuf,
     /// The other program and its words.
     pub program: Vec<String>,
 }
@@ -34,7 +38,7 @@ impl Compare {
         let output = child.wait_with_output()?;
         match output.status.code() {
             Some(_) => Ok(output.stdout),
-            None => Err(std::io::Error::other("ended by a signal")),
+            None => Err(Error::new(ErrorKind::Other, "ended by a signal")),
         }
     }
 
@@ -46,6 +50,7 @@ impl Compare {
     fn show_difference(&self, number: u64, file: Vec<u8>) {
         let file = smaller(file, SMALLER_TRIES, |less| self.differs(less));
         let name = format!("difference-{}-{number}.run", self.seed);
+        let path = self.save.join(name);
         let hex: Vec<String> = file.iter().map(|byte| format!("{byte:02X}")).collect();
         println!("difference in file {number}: {}", hex.join(" "));
         println!("here:\n{}", play(&file).text());
@@ -53,9 +58,9 @@ impl Compare {
             Ok(printed) => println!("there:\n{}", String::from_utf8_lossy(&printed)),
             Err(error) => println!("there: {error}"),
         }
-        match std::fs::write(&name, &file) {
-            Ok(()) => println!("saved as {name}"),
-            Err(error) => println!("{name} not saved: {error}"),
+        match std::fs::create_dir_all(&self.save).and_then(|()| std::fs::write(&path, &file)) {
+            Ok(()) => println!("saved as {}", path.display()),
+            Err(error) => println!("{} not saved: {error}", path.display()),
         }
     }
 
@@ -72,12 +77,11 @@ impl Compare {
                     }
                     let file = make(self.seed, number);
                     let played = play(&file);
-                    let same = self
-                        .other(&file)
-                        .is_ok_and(|printed| printed == played.text().as_bytes());
+                    let printed = self.other(&file).ok();
+                    let same = printed == Some(played.text().into_bytes());
                     let mut tally = tally.lock().unwrap();
-                    tally.count(&file, &played);
-                    if tally.files % 100 == 0 {
+                    tally.count(&file, &played, &[played.code]);
+                    if self.progress && tally.files % 100 == 0 {
                         eprintln!("{} of {}", tally.files, self.count);
                     }
                     if !same && alike.swap(false, Ordering::Relaxed) {

@@ -4,7 +4,9 @@ pub const MOST_BYTES: usize = 65_536;
 pub const MOST_SLOTS: u8 = 128;
 pub const MOST_MODULUS: u32 = 65_536;
 pub const MOST_ORDERS: u8 = 15;
-pub const REPORT_BYTES: usize = 40;
+/// Numbers of a report, each of four bytes.
+pub const REPORT_NUMBERS: usize = 10;
+pub const REPORT_BYTES: usize = 4 * REPORT_NUMBERS;
 /// Bytes before the batch sizes.
 pub const HEAD: usize = 8;
 
@@ -34,6 +36,13 @@ pub struct Lent {
     pub out: usize,
     pub report: usize,
 }
+
+/// Buffers that are too short for no file.
+pub const ENOUGH: Lent = Lent {
+    marks: usize::MAX,
+    out: usize::MAX,
+    report: usize::MAX,
+};
 
 fn sum(sizes: &[u8]) -> usize {
     sizes.iter().map(|&size| usize::from(size)).sum()
@@ -122,12 +131,6 @@ impl RunFile {
 #[cfg(test)]
 mod tests {
     use super::*;
-
-    const ENOUGH: Lent = Lent {
-        marks: 32_768,
-        out: 65_025,
-        report: 40,
-    };
 
     fn code(file: &[u8], lent: Lent) -> u8 {
         read(file, lent).err().unwrap_or(0)

@@ -1,7 +1,10 @@
 //! What each schedule entry does: its mark, the bytes read, the report.
 
 use crate::actions::{Action, Actions, Deed};
-use crate::file::{Entry, RunFile, REPORT_BYTES};
+use crate::file::{Entry, RunFile, REPORT_BYTES, REPORT_NUMBERS};
+
+#[cfg(feature = "library")]
+mod state;
 
 pub const PRODUCER: usize = 0;
 pub const CONSUMER: usize = 1;
@@ -25,6 +28,21 @@ pub mod refused {
     pub const AGE_UNUSED: u8 = 132;
     pub const AGE_TOO_GREAT: u8 = 133;
     pub const HIDDEN: u8 = 134;
+}
+
+/// Places of the report's numbers that are looked at one by one.
+pub mod report {
+    /// Those of the producer and, in the next place, of the consumer.
+    pub const COMPLETED_BYTES: usize = 2;
+    pub const DATA_LOADS: usize = 4;
+    #[cfg(feature = "library")]
+    pub const REFUSED: usize = 1;
+    #[cfg(feature = "library")]
+    pub const OCCUPANCY: usize = 5;
+    #[cfg(feature = "library")]
+    pub const RACE: usize = 8;
+    #[cfg(feature = "library")]
+    pub const RACE_PARTNER: usize = 9;
 }
 
 /// Where a core stands in its batch: the access that its next entry makes.
@@ -110,6 +128,11 @@ impl<'f> Machine<'f> {
         self.size(core).map(|_| self.cores[core].next)
     }
 
+    /// Number of batches that the core has left behind.
+    pub fn batches(&self, core: usize) -> usize {
+        self.cores[core].batches
+    }
+
     /// Number of stores of the index that the core loads as foreign.
     pub fn foreign_stores(&self, core: usize) -> usize {
         self.stores[1 - core].len()
@@ -132,8 +155,8 @@ impl<'f> Machine<'f> {
     }
 
     /// Room for a push: (cached front + m - b) mod M; for a pop: (cached back - f) mod M.
-    fn room(&self, core: usize) -> u32 {
-        let Core { own, cached, .. } = self.cores[core];
+    fn room(&self, core: usize, cached: u32) -> u32 {
+        let own = self.cores[core].own;
         let ahead = if core == PRODUCER {
             cached + self.file.m
         } else {
@@ -163,9 +186,7 @@ impl<'f> Machine<'f> {
         if self.halted() {
             return Err(refused::HALTED);
         }
-        let Some(size) = self.size(core) else {
-            return Err(refused::NO_BATCH);
-        };
+        let size = self.size(core).ok_or(refused::NO_BATCH)?;
         let next = self.cores[core].next;
         if entry.age != 0 && next != Next::ForeignLoad {
             return Err(refused::AGE_UNUSED);
@@ -204,7 +225,7 @@ impl<'f> Machine<'f> {
         self.record(core, Deed::OwnLoad);
         let newest = self.stores[core].len() - 1;
         self.cores[core].own = self.stores[core][newest].value;
-        let enough = self.room(core) >= size;
+        let enough = self.room(core, self.cores[core].cached) >= size;
         self.cores[core].next = if enough {
             Self::data_or_store(0, size)
         } else {
@@ -213,7 +234,8 @@ impl<'f> Machine<'f> {
         performed::OWN_LOAD
     }
 
-    fn foreign_load(&mut self, core: usize, size: u32, age: usize) -> Result<u8, u8> {
+    /// The store that a foreign load reads and the action that it is, or the mark of its refusal.
+    fn readable(&self, core: usize, age: usize) -> Result<(Stored, Deed), u8> {
         let stores = &self.stores[1 - core];
         if age >= stores.len() {
             return Err(refused::AGE_TOO_GREAT);
@@ -231,9 +253,21 @@ impl<'f> Machine<'f> {
         if self.actions.hides(&later, self.action(core, deed)) {
             return Err(refused::HIDDEN);
         }
+        Ok((store, deed))
+    }
+
+    /// Whether the core's foreign load, were it made at this age, would be performed and the batch fail.
+    pub fn would_fail(&self, core: usize, age: u8) -> bool {
+        let room = |(store, _): (Stored, Deed)| self.room(core, store.value);
+        let room = self.readable(core, usize::from(age)).map(room).ok();
+        matches!((room, self.size(core)), (Some(room), Some(size)) if !self.halted() && room < size)
+    }
+
+    fn foreign_load(&mut self, core: usize, size: u32, age: usize) -> Result<u8, u8> {
+        let (store, deed) = self.readable(core, age)?;
         self.record(core, deed);
         self.cores[core].cached = store.value;
-        if self.room(core) >= size {
+        if self.room(core, store.value) >= size {
             self.cores[core].next = Self::data_or_store(0, size);
             Ok(performed::ROOM_ENOUGH)
         } else {
@@ -290,8 +324,8 @@ impl<'f> Machine<'f> {
         core.next = Next::OwnLoad;
     }
 
-    /// The ten numbers of the report.
-    pub fn numbers(&self) -> [u32; 10] {
+    /// The numbers of the report.
+    pub fn numbers(&self) -> [u32; REPORT_NUMBERS] {
         let newest = |core: usize| self.stores[core][self.stores[core].len() - 1].value;
         let modulus = self.file.modulus;
         let (racing, rival) = self.race.unwrap_or((0, 0));

@@ -2,9 +2,10 @@
 
 use crate::call::call;
 use crate::file::{MOST_BYTES, REPORT_BYTES};
+use crate::machine::report;
 
 /// Most bytes that 255 pops of 255 can read.
-const MOST_OUT: usize = 255 * 255;
+pub const MOST_OUT: usize = 255 * 255;
 
 /// A played file: the code, and for code 0 the report's numbers, the marks and the bytes read.
 pub struct Played {
@@ -14,11 +15,19 @@ pub struct Played {
     pub out: Vec<u8>,
 }
 
+/// The numbers that a report's bytes stand for.
+pub fn numbers(report: &[u8]) -> Vec<u32> {
+    report
+        .chunks(4)
+        .map(|four| u32::from_le_bytes([four[0], four[1], four[2], four[3]]))
+        .collect()
+}
+
 /// Plays a file with buffers that are never too short.
 pub fn play(file: &[u8]) -> Played {
     let (mut marks, mut out) = (vec![0; MOST_BYTES / 2], vec![0; MOST_OUT]);
-    let mut report = [0; REPORT_BYTES];
-    let code = call(file, &mut marks, &mut out, &mut report);
+    let mut written = [0; REPORT_BYTES];
+    let code = call(file, &mut marks, &mut out, &mut written);
     if code != 0 {
         return Played {
             code,
@@ -27,13 +36,10 @@ pub fn play(file: &[u8]) -> Played {
             out: Vec::new(),
         };
     }
-    let numbers: Vec<u32> = report
-        .chunks(4)
-        .map(|four| u32::from_le_bytes([four[0], four[1], four[2], four[3]]))
-        .collect();
+    let numbers = numbers(&written);
     // Every entry is performed or refused; every data load made wrote one byte.
     marks.truncate((numbers[0] + numbers[1]) as usize);
-    out.truncate(numbers[4] as usize);
+    out.truncate(numbers[report::DATA_LOADS] as usize);
     Played {
         code,
         numbers,
@@ -47,6 +53,12 @@ fn line<T: ToString>(list: &[T]) -> String {
 }
 
 impl Played {
+    /// The report's bytes; none for a refused file.
+    #[cfg(feature = "library")]
+    pub fn report(&self) -> Vec<u8> {
+        self.numbers.iter().flat_map(|n| n.to_le_bytes()).collect()
+    }
+
     /// One line for a refused file, four for any other.
     pub fn text(&self) -> String {
         let mut text = format!("code {}\n", self.code);

@@ -1,50 +1,118 @@
-//! How often each code, mark and order setting was seen.
+//! How often each code, mark, order setting and border was seen, counted by files.
 
+use crate::file::{MOST_BYTES, MOST_MODULUS, MOST_SLOTS};
+use crate::machine::{performed, refused, report, CONSUMER, PRODUCER};
 use crate::print::Played;
 use std::fmt;
 
+pub const CODES: usize = 12;
+
+/// Times round that are counted.
+pub const WRAPS: [u32; 4] = [1, 2, 3, 10];
+
+/// File lengths about the longest that is lawful.
+pub const LENGTHS: [usize; 3] = [MOST_BYTES - 1, MOST_BYTES, MOST_BYTES + 1];
+
+/// Nothing but numbers, so that it may lie in memory that processes share.
+#[derive(Clone, Copy)]
+#[repr(C)]
 pub struct Tally {
     pub files: u64,
-    codes: [u64; 12],
+    /// Calls of the library; 0 where files went through a program.
+    pub calls: u64,
+    /// Files for which the code was given, with whatever buffers.
+    pub codes: [u64; CODES],
+    /// Entries with each mark.
     marks: [u64; 256],
     /// Files in which each mark was seen.
-    files_with: [u64; 256],
-    settings: [u64; 16],
+    pub files_with: [u64; 256],
+    pub settings: [u64; 16],
     races: [u64; 16],
     hidden: [u64; 16],
-    /// Files in which back passed its modulus at least 1, 2, 3 and 10 times.
-    wraps: [u64; 4],
-    most_entries: usize,
-    /// Foreign loads performed at an age other than 0, and the greatest such age.
+    /// Files in which back, and front, passed the modulus so many times or more.
+    pub wraps: [[u64; WRAPS.len()]; 2],
+    /// Files in which the producer, and the consumer, completed 255 batches.
+    pub all_completed: [u64; 2],
+    /// Files in which the producer, and the consumer, loaded the foreign index at age 255.
+    pub oldest_loads: [u64; 2],
+    /// Lawful files with the greatest ring, and with the greatest modulus.
+    pub greatest_ring: u64,
+    pub greatest_modulus: u64,
+    pub lengths: [u64; LENGTHS.len()],
+    /// Calls with a lawful file, by which buffers were too short: marks 1, out 2, report 4, added up.
+    pub short: [u64; 8],
+    /// Calls with an empty buffer, lent by its address and as a null pointer.
+    pub empty: [u64; 2],
+    most_entries: u64,
+    /// Foreign loads performed at an age other than 0.
     stale_loads: u64,
-    greatest_age: u8,
 }
 
-const WRAPS: [u32; 4] = [1, 2, 3, 10];
+/// The marks that there are.
+pub fn all_marks() -> impl Iterator<Item = usize> {
+    let range = |least, most| usize::from(least)..=usize::from(most);
+    range(performed::OWN_LOAD, performed::RACE).chain(range(refused::NO_CORE, refused::HIDDEN))
+}
+
+#[cfg(feature = "library")]
+fn add<const N: usize>(to: &mut [u64; N], more: &[u64; N]) {
+    to.iter_mut().zip(more).for_each(|(to, more)| *to += more);
+}
 
 impl Tally {
     pub fn new() -> Self {
         Tally {
             files: 0,
-            codes: [0; 12],
+            calls: 0,
+            codes: [0; CODES],
             marks: [0; 256],
             files_with: [0; 256],
             settings: [0; 16],
             races: [0; 16],
             hidden: [0; 16],
-            wraps: [0; 4],
+            wraps: [[0; WRAPS.len()]; 2],
+            all_completed: [0; 2],
+            oldest_loads: [0; 2],
+            greatest_ring: 0,
+            greatest_modulus: 0,
+            lengths: [0; LENGTHS.len()],
+            short: [0; 8],
+            empty: [0; 2],
             most_entries: 0,
             stale_loads: 0,
-            greatest_age: 0,
         }
     }
 
-    pub fn count(&mut self, file: &[u8], played: &Played) {
+    /// Counts a file and the codes that it was given, each once.
+    pub fn count(&mut self, file: &[u8], played: &Played, codes: &[u8]) {
         self.files += 1;
-        self.codes[usize::from(played.code)] += 1;
-        if played.code != 0 {
-            return;
+        for code in 0..CODES as u8 {
+            self.codes[usize::from(code)] += u64::from(codes.contains(&code));
         }
+        for (files, length) in self.lengths.iter_mut().zip(LENGTHS) {
+            *files += u64::from(file.len() == length);
+        }
+        if played.code == 0 {
+            self.count_ring(file, played);
+            self.count_marks(file, played);
+            self.count_entries(file, played);
+        }
+    }
+
+    fn count_ring(&mut self, file: &[u8], played: &Played) {
+        let modulus = u32::from_le_bytes([file[1], file[2], file[3], file[4]]);
+        self.greatest_ring += u64::from(file[0] == MOST_SLOTS);
+        self.greatest_modulus += u64::from(modulus == MOST_MODULUS);
+        // Both indexes start at 0, so the bytes of completed batches tell how often they went round.
+        for core in [PRODUCER, CONSUMER] {
+            for (files, times) in self.wraps[core].iter_mut().zip(WRAPS) {
+                *files +=
+                    u64::from(played.numbers[report::COMPLETED_BYTES + core] / modulus >= times);
+            }
+        }
+    }
+
+    fn count_marks(&mut self, file: &[u8], played: &Played) {
         let mut seen = [0; 256];
         for &mark in &played.marks {
             seen[usize::from(mark)] += 1;
@@ -55,44 +123,66 @@ impl Tally {
         }
         let setting = usize::from(file[5]);
         self.settings[setting] += 1;
-        self.races[setting] += u64::from(seen[7] > 0);
-        self.hidden[setting] += u64::from(seen[134] > 0);
-        let modulus = u32::from_le_bytes([file[1], file[2], file[3], file[4]]);
-        for (files, times) in self.wraps.iter_mut().zip(WRAPS) {
-            *files += u64::from(played.numbers[2] / modulus >= times);
-        }
-        self.most_entries = self.most_entries.max(played.marks.len());
+        self.races[setting] += u64::from(seen[usize::from(performed::RACE)] > 0);
+        self.hidden[setting] += u64::from(seen[usize::from(refused::HIDDEN)] > 0);
+        self.most_entries = self.most_entries.max(played.marks.len() as u64);
+    }
+
+    fn count_entries(&mut self, file: &[u8], played: &Played) {
         let schedule = &file[file.len() - 2 * played.marks.len()..];
-        for (mark, entry) in played.marks.iter().zip(schedule.chunks(2)) {
-            if matches!(mark, 2 | 3) && entry[1] != 0 {
-                self.stale_loads += 1;
-                self.greatest_age = self.greatest_age.max(entry[1]);
+        let (mut completed, mut oldest) = ([0; 2], [false; 2]);
+        for (&mark, entry) in played.marks.iter().zip(schedule.chunks(2)) {
+            let (core, age) = (usize::from(entry[0]), entry[1]);
+            match mark {
+                performed::INDEX_STORE => completed[core] += 1,
+                performed::ROOM_ENOUGH | performed::BATCH_FAILED => {
+                    self.stale_loads += u64::from(age != 0);
+                    oldest[core] |= age == u8::MAX;
+                }
+                _ => {}
             }
         }
+        for core in [PRODUCER, CONSUMER] {
+            self.all_completed[core] += u64::from(completed[core] == u64::from(u8::MAX));
+            self.oldest_loads[core] += u64::from(oldest[core]);
+        }
+    }
+
+    /// Takes over what another has counted.
+    #[cfg(feature = "library")]
+    pub fn add(&mut self, more: &Tally) {
+        self.files += more.files;
+        self.calls += more.calls;
+        add(&mut self.codes, &more.codes);
+        add(&mut self.marks, &more.marks);
+        add(&mut self.files_with, &more.files_with);
+        add(&mut self.settings, &more.settings);
+        add(&mut self.races, &more.races);
+        add(&mut self.hidden, &more.hidden);
+        add(&mut self.wraps[PRODUCER], &more.wraps[PRODUCER]);
+        add(&mut self.wraps[CONSUMER], &more.wraps[CONSUMER]);
+        add(&mut self.all_completed, &more.all_completed);
+        add(&mut self.oldest_loads, &more.oldest_loads);
+        self.greatest_ring += more.greatest_ring;
+        self.greatest_modulus += more.greatest_modulus;
+        add(&mut self.lengths, &more.lengths);
+        add(&mut self.short, &more.short);
+        add(&mut self.empty, &more.empty);
+        self.most_entries = self.most_entries.max(more.most_entries);
+        self.stale_loads += more.stale_loads;
     }
 }
 
 impl fmt::Display for Tally {
     fn fmt(&self, to: &mut fmt::Formatter) -> fmt::Result {
-        writeln!(
-            to,
-            "files {}, most entries {}",
-            self.files, self.most_entries
-        )?;
-        let (loads, age) = (self.stale_loads, self.greatest_age);
-        writeln!(
-            to,
-            "foreign loads of an older store {loads}, greatest age {age}"
-        )?;
-        for code in 0..=8 {
-            writeln!(to, "code {code}: {}", self.codes[code])?;
+        let (files, most) = (self.files, self.most_entries);
+        writeln!(to, "files {files}, most entries {most}")?;
+        for (code, files) in self.codes.iter().enumerate() {
+            writeln!(to, "code {code}: {files} files")?;
         }
-        for mark in (1..=7).chain(129..=134) {
-            writeln!(
-                to,
-                "mark {mark}: {} in {} files",
-                self.marks[mark], self.files_with[mark]
-            )?;
+        for mark in all_marks() {
+            let (entries, files) = (self.marks[mark], self.files_with[mark]);
+            writeln!(to, "mark {mark}: {files} files, {entries} entries")?;
         }
         for bits in 0..16 {
             let (files, races, hidden) = (self.settings[bits], self.races[bits], self.hidden[bits]);
@@ -101,9 +191,35 @@ impl fmt::Display for Tally {
                 "orders {bits}: {files} files, {races} with a race, {hidden} with a hidden store"
             )?;
         }
-        for (files, times) in self.wraps.iter().zip(WRAPS) {
-            writeln!(to, "back wrapped {times} times or more: {files} files")?;
+        for (core, (name, index)) in [("producer", "back"), ("consumer", "front")]
+            .into_iter()
+            .enumerate()
+        {
+            for (files, times) in self.wraps[core].iter().zip(WRAPS) {
+                writeln!(to, "{index} wrapped {times} times or more: {files} files")?;
+            }
+            let (completed, oldest) = (self.all_completed[core], self.oldest_loads[core]);
+            writeln!(
+                to,
+                "{name}: 255 batches completed in {completed} files, a foreign load at age 255 in {oldest}"
+            )?;
         }
-        Ok(())
+        writeln!(to, "foreign loads of an older store: {}", self.stale_loads)?;
+        writeln!(
+            to,
+            "m = {MOST_SLOTS}: {} files; M = {MOST_MODULUS}: {}",
+            self.greatest_ring, self.greatest_modulus
+        )?;
+        for (files, length) in self.lengths.iter().zip(LENGTHS) {
+            writeln!(to, "length {length}: {files} files")?;
+        }
+        if self.calls == 0 {
+            return Ok(());
+        }
+        let (calls, short, [address, null]) = (self.calls, self.short, self.empty);
+        writeln!(
+            to,
+            "calls {calls}; by short buffers (marks 1, out 2, report 4) {short:?}; with an empty one {address}, as a null pointer {null}"
+        )
     }
 }

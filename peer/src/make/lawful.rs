@@ -5,7 +5,7 @@ use crate::file::{RunFile, HEAD, MOST_BYTES, MOST_MODULUS, MOST_ORDERS};
 use crate::random::Random;
 
 /// m and M.
-fn ring(random: &mut Random) -> (u32, u32) {
+pub fn ring(random: &mut Random) -> (u32, u32) {
     match random.range(0, 99) {
         0..=69 => {
             let m = random.range(1, 4);

@@ -1,7 +1,7 @@
 //! Schedules that are mostly sensible: batches complete, ages are used where they may be.
 
 use crate::file::{Entry, RunFile};
-use crate::machine::{performed, Machine, Next, CONSUMER, PRODUCER};
+use crate::machine::{Machine, Next, CONSUMER, PRODUCER};
 use crate::random::Random;
 
 /// How one schedule behaves, in times of a hundred.
@@ -82,15 +82,16 @@ pub fn make(random: &mut Random, file: &RunFile, most: usize) -> Vec<Entry> {
         // Once halted, often: which refusal comes first.
         if random.percent(if machine.halted() { 20 } else { manner.no_core }) {
             entry.core = random.pick(&[2, 2, 3, 128, 254, 255]);
-        } else if loads_foreign && !done[1 - core] && random.percent(manner.patient) {
-            let mark = machine.clone().play(entry);
-            if mark == performed::BATCH_FAILED {
-                core = 1 - core;
-                entry = Entry {
-                    core: core as u8,
-                    age: 0,
-                };
-            }
+        } else if loads_foreign
+            && !done[1 - core]
+            && random.percent(manner.patient)
+            && machine.would_fail(core, age)
+        {
+            core = 1 - core;
+            entry = Entry {
+                core: core as u8,
+                age: 0,
+            };
         }
         machine.play(entry);
         entries.push(entry);

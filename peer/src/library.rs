@@ -1,0 +1,40 @@
+//! The library's C entry, as its header declares it.
+
+extern "C" {
+    fn ferrulique_run(
+        file: *const u8,
+        file_len: usize,
+        marks: *mut u8,
+        marks_len: usize,
+        out: *mut u8,
+        out_len: usize,
+        report: *mut u8,
+        report_len: usize,
+    ) -> u32;
+}
+
+/// The address to lend: null for an empty buffer where `null` says so.
+fn address(buffer: &mut [u8], null: bool) -> *mut u8 {
+    if null && buffer.is_empty() {
+        std::ptr::null_mut()
+    } else {
+        buffer.as_mut_ptr()
+    }
+}
+
+/// Calls the library. With `null`, empty buffers are lent as null pointers, the file too.
+pub fn run(file: &mut [u8], [marks, out, report]: [&mut [u8]; 3], null: bool) -> u32 {
+    // SAFETY: each pointer is good for the length beside it, and the four do not overlap.
+    unsafe {
+        ferrulique_run(
+            address(file, null),
+            file.len(),
+            address(marks, null),
+            marks.len(),
+            address(out, null),
+            out.len(),
+            address(report, null),
+            report.len(),
+        )
+    }
+}
