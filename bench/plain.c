@@ -19,7 +19,7 @@ struct layout {
 struct core {
   const uint8_t *size_at, *sizes_end;
   enum phase phase;
-  uint32_t lead, size, left, own, slot, cached, known, done, failed, stores;
+  uint32_t lead, size, left, own, slot, cached, known, done, failed, shortfall, stores;
   int syncs;
   uint16_t value[STORES], entry[STORES];
 };
@@ -69,7 +69,7 @@ static void fresh_core(struct core *c, const uint8_t *sizes, size_t batches, uin
   c->size_at = sizes;
   c->sizes_end = sizes + batches;
   c->phase = OWN_LOAD;
-  c->size = c->left = c->own = c->slot = c->cached = c->known = c->done = c->failed = 0;
+  c->size = c->left = c->own = c->slot = c->cached = c->known = c->done = c->failed = c->shortfall = 0;
   c->lead = lead;
   c->syncs = syncs;
   c->stores = 1;
@@ -92,17 +92,17 @@ static void fresh(struct machine *s, const struct layout *l, const uint8_t *file
   fresh_core(&s->core[CONSUMER], l->pops, file[7], 0, back_syncs);
 }
 
-/* Is room, (cached + lead - own) mod M, below the batch size? Each of the three is below M, and so the sum is off by M at most once. */
-static inline int is_short(const struct machine *s, const struct core *c) {
+/* By how much room, (cached + lead - own) mod M, is below the batch size. Each of the three is below M, and so the sum is off by M at most once. */
+static inline uint32_t shortfall(const struct machine *s, const struct core *c) {
   int32_t room = (int32_t)(c->cached + c->lead) - (int32_t)c->own, modulus = (int32_t)s->modulus;
   if (room < 0) room += modulus;
   if (room >= modulus) room -= modulus;
-  return (uint32_t)room < c->size;
+  return (uint32_t)room < c->size ? c->size - (uint32_t)room : 0;
 }
 
 static inline uint8_t own_load(struct machine *s, struct core *c) {
   c->size = c->left = *c->size_at;
-  c->phase = is_short(s, c) ? FOREIGN_LOAD : c->size != 0 ? DATA_ACCESS : INDEX_STORE;
+  c->phase = shortfall(s, c) != 0 ? FOREIGN_LOAD : c->size != 0 ? DATA_ACCESS : INDEX_STORE;
   return FERRULIQUE_OWN_LOADED;
 }
 
@@ -115,13 +115,15 @@ static inline uint8_t foreign_load(struct machine *s, uint32_t who, uint32_t age
   if (age != 0 && other->entry[place + 1] <= c->known) return FERRULIQUE_STORE_HIDDEN;
   c->cached = other->value[place];
   if (c->syncs && other->entry[place] > c->known) c->known = other->entry[place];
-  if (!is_short(s, c)) {
+  uint32_t missing = shortfall(s, c);
+  if (missing == 0) {
     c->phase = DATA_ACCESS;
     return FERRULIQUE_FOREIGN_LOADED;
   }
   if (who == PRODUCER) s->push += c->size;
   c->size_at++;
   c->failed++;
+  if (missing > c->shortfall) c->shortfall = missing;
   c->phase = OWN_LOAD;
   return FERRULIQUE_BATCH_FAILED;
 }
@@ -206,6 +208,8 @@ static void put_report(uint8_t *report, const struct machine *s, uint32_t perfor
   put(report, FERRULIQUE_FAILED_POPS, c->failed);
   put(report, FERRULIQUE_RACE_ENTRY, s->race);
   put(report, FERRULIQUE_RACE_PARTNER, s->partner);
+  put(report, FERRULIQUE_PUSH_SHORTFALL, p->shortfall);
+  put(report, FERRULIQUE_POP_SHORTFALL, c->shortfall);
 }
 
 uint32_t plain_run(const uint8_t *file, size_t file_len, uint8_t *marks, size_t marks_len, uint8_t *out, size_t out_len, uint8_t *report,

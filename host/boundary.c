@@ -3,7 +3,8 @@
  *
  * What it can tell without a second machine: nothing outside a buffer is read or written (it would end here); with a code but 0 no byte
  * changes; with code 0 none past what the report counts does; the answer does not depend on where the buffers lie or what they held; buffers
- * of just enough bytes are enough, and one byte less gives 9, 10 or 11. */
+ * of just enough bytes are enough, and one byte less gives 9, 10 or 11; a shortfall is there exactly where a batch failed, and is at most a
+ * batch's size. */
 #define _DEFAULT_SOURCE
 #include <stdio.h>
 #include <stdlib.h>
@@ -97,6 +98,19 @@ static size_t pops_of(const uint8_t *file) {
   return sum;
 }
 
+/* Does the largest shortfall go with the count of failed batches and with the n sizes of that kind? */
+static int shortfall_fits(const uint8_t *report, enum ferrulique_field failed, enum ferrulique_field shortfall, const uint8_t *sizes, size_t n) {
+  uint32_t most = 0, largest = ferrulique_number(report, shortfall);
+  for (size_t i = 0; i < n; i++) most = sizes[i] > most ? sizes[i] : most;
+  return (ferrulique_number(report, failed) == 0) == (largest == 0) && largest <= most;
+}
+
+static int shortfalls_fit(const uint8_t *report, const uint8_t *file) {
+  const uint8_t *pushes = file + FERRULIQUE_HEADER_BYTES, *pops = pushes + file[6];
+  return shortfall_fits(report, FERRULIQUE_FAILED_PUSHES, FERRULIQUE_PUSH_SHORTFALL, pushes, file[6]) &&
+         shortfall_fits(report, FERRULIQUE_FAILED_POPS, FERRULIQUE_POP_SHORTFALL, pops, file[7]);
+}
+
 static void try_file(const uint8_t *file, size_t n) {
   static struct answer long_enough, just_enough, shorter;
   size_t pops = n < FERRULIQUE_HEADER_BYTES ? 0 : file[7];
@@ -108,6 +122,7 @@ static void try_file(const uint8_t *file, size_t n) {
     return;
   }
   ran++;
+  if (!shortfalls_fit(long_enough.report, file)) fail("a shortfall does not go with the batches", file, n);
   size_t m = entries_of(long_enough.report), o = pops_of(file);
   call(&just_enough, file, n, m, o, FERRULIQUE_REPORT_BYTES, 0x5A);
   same(&long_enough, &just_enough, file, n);

@@ -17,9 +17,9 @@ static void print_words(const char *name, uint32_t code) {
   printf("%s: %s\n", name, code_words(code));
   if (code != FERRULIQUE_RAN) return;
   print_report(stdout, report);
-  printf("  marks              ");
+  print_name(stdout, "marks");
   print_line(stdout, marks, entries_of(report));
-  printf("  bytes read         ");
+  print_name(stdout, "bytes read");
   print_line(stdout, out, ferrulique_number(report, FERRULIQUE_DATA_LOADS));
 }
 

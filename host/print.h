@@ -6,8 +6,6 @@
 
 #include "ferrulique.h"
 
-enum { REPORT_NUMBERS = FERRULIQUE_REPORT_BYTES / 4 };
-
 /* What a code says of a file. */
 static inline const char *code_words(uint32_t code) {
   static const char *const words[] = {
@@ -28,12 +26,14 @@ static inline const char *code_words(uint32_t code) {
 }
 
 /* The name of a number of the report. */
-static inline const char *field_words(int field) {
+static inline const char *field_words(unsigned field) {
   static const char *const words[] = {
-      "entries performed", "entries refused", "bytes pushed",  "bytes popped", "data loads",
-      "occupancy",         "failed pushes",   "failed pops",   "racing entry", "its partner",
+      "entries performed", "entries refused", "bytes pushed",           "bytes popped",
+      "data loads",        "occupancy",       "failed pushes",          "failed pops",
+      "racing entry",      "its partner",     "largest push shortfall", "largest pop shortfall",
   };
-  _Static_assert(sizeof words / sizeof *words == REPORT_NUMBERS, "each number of the report has a name");
+  _Static_assert(sizeof words / sizeof *words == FERRULIQUE_REPORT_NUMBERS, "each number of the report has a name");
+  _Static_assert(FERRULIQUE_POP_SHORTFALL + 1 == FERRULIQUE_REPORT_NUMBERS, "the last field is the last number");
   return words[field];
 }
 
@@ -52,7 +52,7 @@ static inline void print_line(FILE *to, const uint8_t *bytes, size_t n) {
 static inline void print_raw(FILE *to, uint32_t code, const uint8_t *marks, const uint8_t *out, const uint8_t *report) {
   fprintf(to, "code %lu\n", (unsigned long)code);
   if (code != FERRULIQUE_RAN) return;
-  for (int k = 0; k < REPORT_NUMBERS; k++) {
+  for (unsigned k = 0; k < FERRULIQUE_REPORT_NUMBERS; k++) {
     fprintf(to, k == 0 ? "%lu" : " %lu", (unsigned long)ferrulique_number(report, (enum ferrulique_field)k));
   }
   fputc('\n', to);
@@ -60,10 +60,14 @@ static inline void print_raw(FILE *to, uint32_t code, const uint8_t *marks, cons
   print_line(to, out, ferrulique_number(report, FERRULIQUE_DATA_LOADS));
 }
 
+/* What begins a line of the report, and of what else stands below it. */
+static inline void print_name(FILE *to, const char *name) { fprintf(to, "  %-22s ", name); }
+
 /* The report by name, a number to a line. */
 static inline void print_report(FILE *to, const uint8_t *report) {
-  for (int k = 0; k < REPORT_NUMBERS; k++) {
-    fprintf(to, "  %-18s %lu\n", field_words(k), (unsigned long)ferrulique_number(report, (enum ferrulique_field)k));
+  for (unsigned k = 0; k < FERRULIQUE_REPORT_NUMBERS; k++) {
+    print_name(to, field_words(k));
+    fprintf(to, "%lu\n", (unsigned long)ferrulique_number(report, (enum ferrulique_field)k));
   }
 }
 

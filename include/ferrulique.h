@@ -19,7 +19,10 @@ extern "C" {
 #define FERRULIQUE_LEAST_MODULUS 2u      /* M is this.. */
 #define FERRULIQUE_MOST_MODULUS 65536u   /* ..to this, a multiple of m and not m */
 #define FERRULIQUE_MOST_ORDER_BITS 15u
-#define FERRULIQUE_REPORT_BYTES 40u
+
+/* A report has this many numbers (enum ferrulique_field names them) of four bytes each: 48 bytes. */
+#define FERRULIQUE_REPORT_NUMBERS 12u
+#define FERRULIQUE_REPORT_BYTES (4u * FERRULIQUE_REPORT_NUMBERS)
 
 /* Buffers of these sizes are long enough for every file: an entry is two bytes, and there are at most 255 pops of at most 255 bytes. */
 #define FERRULIQUE_MOST_ENTRIES 32764u
@@ -46,7 +49,7 @@ enum ferrulique_code {
   FERRULIQUE_ODD_SCHEDULE = 8,      /* the schedule has an odd number of bytes */
   FERRULIQUE_MARKS_SHORT = 9,       /* marks has fewer bytes than the schedule has entries */
   FERRULIQUE_OUT_SHORT = 10,        /* out has fewer bytes than the pop sizes add up to */
-  FERRULIQUE_REPORT_SHORT = 11      /* report has fewer than 40 bytes */
+  FERRULIQUE_REPORT_SHORT = 11      /* report has fewer than 48 bytes */
 };
 
 /* The mark of an entry. Up to 7 it was performed; from 129 on it was refused and changed nothing. */
@@ -77,7 +80,10 @@ enum ferrulique_field {
   FERRULIQUE_FAILED_PUSHES,
   FERRULIQUE_FAILED_POPS,
   FERRULIQUE_RACE_ENTRY,     /* counted from 1; 0 where nothing raced */
-  FERRULIQUE_RACE_PARTNER    /* the latest entry that it races with, or 0 */
+  FERRULIQUE_RACE_PARTNER,   /* the latest entry that it races with, or 0 */
+  /* A failed batch's shortfall is its size less the room that its foreign load left it. The largest of each kind, 0 where none failed: */
+  FERRULIQUE_PUSH_SHORTFALL,
+  FERRULIQUE_POP_SHORTFALL
 };
 
 /* One number of a report: four bytes, little-endian, whatever this machine's order is. */
@@ -89,13 +95,13 @@ static inline uint32_t ferrulique_number(const uint8_t *report, enum ferrulique_
 /* Plays the run file and answers a ferrulique_code.
  *
  * For FERRULIQUE_RAN: marks gets one byte for each entry of the schedule; out the bytes that data loads read, FERRULIQUE_DATA_LOADS of them;
- * report its 40 bytes. Bytes of the three buffers past these stay as they were. For any other code all of them do.
+ * report its 48 bytes. Bytes of the three buffers past these stay as they were. For any other code all of them do.
  *
  * The caller sees to this, and to nothing else: each pointer is readable (the file) or writable (the rest) for the length beside it, and the
  * three buffers lie apart from one another and from the file. No value of any byte and no length is refused in any way but by a code. A null
  * pointer is fine where its length is 0. The function keeps nothing between calls, allocates nothing, calls nothing but memcpy and memset, and
  * may run in several threads at once on buffers of their own. It always returns: time grows with the entries and, at a foreign load, with the
- * stores of the index, at most 256. Stack: 6,184 bytes measured on x86-64, whatever the file. */
+ * stores of the index, at most 256. Stack: 6,200 bytes measured on x86-64, whatever the file. */
 uint32_t ferrulique_run(const uint8_t *file, size_t file_len, uint8_t *marks, size_t marks_len, uint8_t *out, size_t out_len, uint8_t *report,
                         size_t report_len);
 

@@ -64,8 +64,8 @@ static int line_of_bytes(FILE *from, uint8_t *to, size_t n) {
 
 /* Reads the line of the report's numbers and lays them out as the library does. */
 static int line_of_report(FILE *from, uint8_t *report) {
-  uint32_t numbers[REPORT_NUMBERS];
-  if (line_of_numbers(from, numbers, REPORT_NUMBERS) != REPORT_NUMBERS) return 0;
+  uint32_t numbers[FERRULIQUE_REPORT_NUMBERS];
+  if (line_of_numbers(from, numbers, FERRULIQUE_REPORT_NUMBERS) != (long)FERRULIQUE_REPORT_NUMBERS) return 0;
   for (size_t i = 0; i < FERRULIQUE_REPORT_BYTES; i++) report[i] = (uint8_t)(numbers[i / 4] >> 8 * (i % 4));
   return 1;
 }

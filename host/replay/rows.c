@@ -60,7 +60,7 @@ static void note_foreign_load(FILE *to, const struct step *s) {
   enum core core = (enum core)s->core;
   fprintf(to, "age %u, %s; needed %u, room %u", s->age, store_words(s->from, cell), s->size, s->room);
   if (s->mark != FERRULIQUE_BATCH_FAILED) return;
-  fprintf(to, ": %s %u has failed", batch_words(core), s->batch);
+  fprintf(to, ": %s %u has failed, %u byte%s short", batch_words(core), s->batch, s->shortfall, plural(s->shortfall));
   if (core == PRODUCER) fprintf(to, ", its %u byte%s passed over", s->size, plural(s->size));
 }
 

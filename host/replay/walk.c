@@ -26,7 +26,7 @@ struct machine {
   struct slot slots[FERRULIQUE_MOST_SLOTS];
   const uint8_t *data; /* the first byte of the push batch under way */
   uint32_t halted;
-  uint32_t performed, refused, loads, bytes[CORES], failed[CORES];
+  uint32_t performed, refused, loads, bytes[CORES], failed[CORES], shortfall[CORES];
 };
 
 static const struct store *newest(const struct stores *stores) { return &stores->list[stores->count - 1]; }
@@ -65,6 +65,16 @@ static int own_load(struct machine *m, struct step *s) {
 /* Where the store that an age names stands in the list of the other's index. */
 static size_t place_of(const struct stores *stores, uint8_t age) { return stores->count - 1 - age; }
 
+/* A failed batch: the room that its foreign load left it must be below its size, and by how much is its shortfall. */
+static int failed_batch(struct machine *m, struct step *s) {
+  if (s->room >= s->size) return 0;
+  s->shortfall = s->size - s->room;
+  m->failed[s->core]++;
+  if (s->shortfall > m->shortfall[s->core]) m->shortfall[s->core] = s->shortfall;
+  next_batch(m, s);
+  return 1;
+}
+
 static int foreign_load(struct machine *m, struct step *s, uint32_t entry) {
   struct mover *c = &m->cores[s->core];
   const struct stores *stores = &m->cores[other_core(s->core)].stores;
@@ -76,11 +86,7 @@ static int foreign_load(struct machine *m, struct step *s, uint32_t entry) {
   s->room = room(m, s->core);
   acquire(&c->acquired, entry, read, is_strong(order_of_load(s->core), m->parts->orders),
           is_strong(order_of_store(other_core(s->core)), m->parts->orders));
-  if (s->mark == FERRULIQUE_BATCH_FAILED) {
-    m->failed[s->core]++;
-    next_batch(m, s);
-    return s->room < s->size;
-  }
+  if (s->mark == FERRULIQUE_BATCH_FAILED) return failed_batch(m, s);
   c->next = DATA_ACCESS;
   return s->mark == FERRULIQUE_FOREIGN_LOADED && s->room >= s->size;
 }
@@ -183,7 +189,9 @@ static int report_agrees(const struct machine *m) {
          ferrulique_number(r, FERRULIQUE_PUSHED) == m->bytes[PRODUCER] && ferrulique_number(r, FERRULIQUE_POPPED) == m->bytes[CONSUMER] &&
          ferrulique_number(r, FERRULIQUE_DATA_LOADS) == m->loads && ferrulique_number(r, FERRULIQUE_OCCUPANCY) == occupancy(m) &&
          ferrulique_number(r, FERRULIQUE_FAILED_PUSHES) == m->failed[PRODUCER] &&
-         ferrulique_number(r, FERRULIQUE_FAILED_POPS) == m->failed[CONSUMER] && ferrulique_number(r, FERRULIQUE_RACE_ENTRY) == m->halted;
+         ferrulique_number(r, FERRULIQUE_FAILED_POPS) == m->failed[CONSUMER] && ferrulique_number(r, FERRULIQUE_RACE_ENTRY) == m->halted &&
+         ferrulique_number(r, FERRULIQUE_PUSH_SHORTFALL) == m->shortfall[PRODUCER] &&
+         ferrulique_number(r, FERRULIQUE_POP_SHORTFALL) == m->shortfall[CONSUMER];
 }
 
 size_t walk(const struct parts *parts, const struct answer *answer, struct step *steps) {

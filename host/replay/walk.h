@@ -18,6 +18,7 @@ struct step {
   unsigned from;        /* loads: the entry that stored what was read, or what the age names; 0 for the initial store */
   unsigned cached;      /* own and foreign loads: the other's index as the core now knows it, */
   unsigned room;        /* and the room that this leaves */
+  unsigned shortfall;   /* mark 3: the bytes by which the room is below the batch */
   unsigned stores;      /* foreign loads: how many stores the index had */
   unsigned hider;       /* mark 134: the entry whose store hides the one that the age names, */
   unsigned through;     /* and the load by which it happens before this one */

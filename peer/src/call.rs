@@ -1,19 +1,21 @@
-//! A whole call: a run file and three lent buffers; the code is the answer.
+//! A whole call: a run file and three lent buffers.
 
 use crate::file::{read, Lent};
-use crate::machine::Machine;
+use crate::machine::{Inside, Machine};
 
-/// Plays the file. Any code but 0 writes nothing; bytes past what is written stay.
-pub fn call(file: &[u8], marks: &mut [u8], out: &mut [u8], report: &mut [u8]) -> u8 {
+/// Plays the file, or answers the code that refuses it, and then nothing is written. Bytes past what is written stay.
+pub fn call(
+    file: &[u8],
+    marks: &mut [u8],
+    out: &mut [u8],
+    report: &mut [u8],
+) -> Result<Inside, u8> {
     let lent = Lent {
         marks: marks.len(),
         out: out.len(),
         report: report.len(),
     };
-    let file = match read(file, lent) {
-        Ok(file) => file,
-        Err(code) => return code,
-    };
+    let file = read(file, lent)?;
     let mut machine = Machine::new(&file);
     for (mark, &entry) in marks.iter_mut().zip(&file.schedule) {
         *mark = machine.play(entry);
@@ -21,12 +23,13 @@ pub fn call(file: &[u8], marks: &mut [u8], out: &mut [u8], report: &mut [u8]) ->
     out[..machine.out().len()].copy_from_slice(machine.out());
     let written = machine.report();
     report[..written.len()].copy_from_slice(&written);
-    0
+    Ok(machine.inside())
 }
 
 #[cfg(test)]
 mod tests {
     use super::*;
+    use crate::file::REPORT_BYTES;
 
     /// A schedule in the document's words, as "P0x3 C1"; core 2 is written X.
     fn schedule(words: &str) -> Vec<u8> {
@@ -50,8 +53,8 @@ mod tests {
         let entries = schedule(words);
         file.extend(&entries);
         let mut marks = vec![0; entries.len() / 2];
-        let mut report = [0; 40];
-        assert_eq!(call(&file, &mut marks, &mut [0; 512], &mut report), 0);
+        let mut report = [0; REPORT_BYTES];
+        assert!(call(&file, &mut marks, &mut [0; 512], &mut report).is_ok());
         let numbers = report
             .chunks(4)
             .map(|four| u32::from_le_bytes(four.try_into().unwrap()));
@@ -101,39 +104,47 @@ mod tests {
             assert_eq!(played, marks, "{words}");
             numbers
         });
-        assert_eq!(played[0], [7, 0, 1, 1, 1, 0, 0, 0, 0, 0]);
-        assert_eq!(played[1][8..], [6, 2]);
-        assert_eq!(played[4][8..], [10, 6]);
+        assert_eq!(played[0], [7, 0, 1, 1, 1, 0, 0, 0, 0, 0, 0, 0]);
+        assert_eq!(played[1][8..10], [6, 2]);
+        assert_eq!(played[4][8..10], [10, 6]);
         assert_eq!((played[5][2], played[5][3], played[5][5]), (2, 2, 0));
+        // R3 and R4 fail with an empty ring, R7 and R9 with one too small: by one byte each.
+        let missing = played.map(|numbers| [numbers[10], numbers[11]]);
+        let none = [0, 0];
+        let expected = [none, none, [0, 1], [0, 1], none, none, [1, 0], none, [1, 0]];
+        assert_eq!(missing, expected);
+    }
+
+    #[test]
+    fn the_largest_shortfall_is_reported_and_not_the_latest() {
+        // A full ring: pushes of 3 and 1 lack 3 bytes and 1. An empty one then: pops of 4 and 2 lack all their bytes.
+        let (marks, numbers) = play(15, &[1, 3, 1], &[1, 4, 2], "P0x7 C0x4 C0x4");
+        assert_eq!(marks, [1, 4, 6, 1, 3, 1, 3, 1, 2, 5, 6, 1, 3, 1, 3]);
+        assert_eq!(numbers[6..], [2, 2, 0, 0, 3, 4]);
+    }
+
+    #[test]
+    fn a_shortfall_is_measured_after_the_reload() {
+        // A push of 3 into a ring of 1: full by the cached front, empty by the one that is loaded.
+        let (marks, numbers) = play(15, &[1, 3], &[1], "P0x3 C0x4 P0x2");
+        assert_eq!(marks, [1, 4, 6, 1, 2, 5, 6, 1, 3]);
+        assert_eq!(numbers[10..], [2, 0]);
     }
 
     #[test]
     fn a_refused_file_writes_nothing() {
-        let (mut marks, mut out, mut report) = ([9; 1], [9; 1], [9; 39]);
-        assert_eq!(
-            call(
-                &[1, 2, 0, 0, 0, 15, 0, 0],
-                &mut marks,
-                &mut out,
-                &mut report
-            ),
-            11
-        );
-        assert_eq!((marks, out, report), ([9; 1], [9; 1], [9; 39]));
+        let (mut marks, mut out, mut report) = ([9; 1], [9; 1], [9; 47]);
+        let file = [1, 2, 0, 0, 0, 15, 0, 0];
+        let code = call(&file, &mut marks, &mut out, &mut report).err();
+        assert_eq!(code, Some(11));
+        assert_eq!((marks, out, report), ([9; 1], [9; 1], [9; 47]));
     }
 
     #[test]
     fn bytes_past_what_is_written_stay() {
-        let (mut marks, mut out, mut report) = ([9; 2], [9; 1], [9; 41]);
-        assert_eq!(
-            call(
-                &[1, 2, 0, 0, 0, 15, 0, 0, 0, 0],
-                &mut marks,
-                &mut out,
-                &mut report
-            ),
-            0
-        );
-        assert_eq!((marks, out, report[40]), ([131, 9], [9], 9));
+        let (mut marks, mut out, mut report) = ([9; 2], [9; 1], [9; 49]);
+        let file = [1, 2, 0, 0, 0, 15, 0, 0, 0, 0];
+        assert!(call(&file, &mut marks, &mut out, &mut report).is_ok());
+        assert_eq!((marks, out, report[48]), ([131, 9], [9], 9));
     }
 }

@@ -11,7 +11,7 @@ use crate::print::play;
 use crate::random::Random;
 use crate::shared::{Plain, Shared};
 use crate::system::End;
-use crate::tally::Tally;
+use crate::tally::{Tally, REPORTS};
 use std::cell::UnsafeCell;
 use std::io;
 use std::path::PathBuf;
@@ -73,6 +73,11 @@ fn count_call(tally: &mut Tally, file: &[u8], lending: &Lending) -> u8 {
     if matches!(code, 0 | 9..) {
         let short = |buffer: usize| usize::from(lengths[buffer] < needs[buffer]) << buffer;
         tally.short[short(0) + short(1) + short(2)] += 1;
+    }
+    if matches!(code, 0 | 11) {
+        for (calls, length) in tally.reports.iter_mut().zip(REPORTS) {
+            *calls += u64::from(lent.report == length);
+        }
     }
     code
 }

@@ -1,6 +1,7 @@
 //! Small rings with every schedule, every age and all sixteen settings, on the library's own answers.
 
 mod answer;
+mod failed;
 mod rings;
 mod tree;
 

@@ -5,7 +5,7 @@ pub const MOST_SLOTS: u8 = 128;
 pub const MOST_MODULUS: u32 = 65_536;
 pub const MOST_ORDERS: u8 = 15;
 /// Numbers of a report, each of four bytes.
-pub const REPORT_NUMBERS: usize = 10;
+pub const REPORT_NUMBERS: usize = 12;
 pub const REPORT_BYTES: usize = 4 * REPORT_NUMBERS;
 /// Bytes before the batch sizes.
 pub const HEAD: usize = 8;
@@ -176,9 +176,9 @@ mod tests {
         file[7] = 1;
         file.extend([2, 1, 0]);
         let lent = |marks, out, report| code(&file, Lent { marks, out, report });
-        assert_eq!(lent(0, 1, 39), 9);
-        assert_eq!(lent(1, 1, 39), 10);
-        assert_eq!(lent(1, 2, 39), 11);
-        assert_eq!(lent(1, 2, 40), 0);
+        assert_eq!(lent(0, 1, 47), 9);
+        assert_eq!(lent(1, 1, 47), 10);
+        assert_eq!(lent(1, 2, 47), 11);
+        assert_eq!(lent(1, 2, 48), 0);
     }
 }

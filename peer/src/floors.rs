@@ -1,6 +1,6 @@
 //! What a comparison of some size must have seen to count: floors under the tally, by files unless it says calls.
 
-use crate::tally::{all_marks, Tally, LENGTHS, WRAPS};
+use crate::tally::{all_marks, Tally, LENGTHS, REPORTS, WRAPS};
 
 struct Floor {
     what: String,
@@ -53,12 +53,36 @@ fn floors(tally: &Tally) -> Vec<Floor> {
             );
         }
     }
+    for (core, name) in ["push", "pop"].iter().enumerate() {
+        for (files, what) in [
+            (tally.short_by_more, "failing by more than 1"),
+            (
+                tally.short_by_less,
+                "failing by less than the largest before it",
+            ),
+            (
+                tally.short_at_first,
+                "failing with another largest shortfall before the reload",
+            ),
+        ] {
+            each(format!("a {name} {what}"), files[core], EACH);
+        }
+    }
+    let both = "a push and a pop failing, with different largest shortfalls";
+    each(both.into(), tally.both_short, EACH);
     for (files, length) in tally.lengths.into_iter().zip(LENGTHS) {
         each(format!("a file of {length} bytes"), files, LONGEST);
     }
     for (short, &calls) in tally.short.iter().enumerate() {
         let what = format!("a call with short buffers {short} (marks 1, out 2, report 4)");
         each(what, calls, EACH);
+    }
+    for (calls, length) in tally.reports.into_iter().zip(REPORTS) {
+        each(
+            format!("a call with a report of {length} bytes, the rest long enough"),
+            calls,
+            EACH,
+        );
     }
     for (pointer, calls) in ["its address", "a null pointer"].iter().zip(tally.empty) {
         each(

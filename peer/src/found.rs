@@ -32,6 +32,7 @@ fn apart(file: &[u8], lending: &Lending, tell: bool) -> io::Result<End> {
                 marks: start(0),
                 out: start(1),
                 numbers: numbers(&start(2)),
+                ..Played::default()
             };
             println!("there:\n{}", answered.text());
             println!("different: {}", difference.as_deref().unwrap_or("nothing"));

@@ -43,6 +43,8 @@ pub mod report {
     pub const RACE: usize = 8;
     #[cfg(feature = "library")]
     pub const RACE_PARTNER: usize = 9;
+    /// The largest shortfalls: of the producer and, in the next place, of the consumer.
+    pub const SHORTFALL: usize = 10;
 }
 
 /// Where a core stands in its batch: the access that its next entry makes.
@@ -52,6 +54,27 @@ pub enum Next {
     ForeignLoad,
     Data(u32),
     IndexStore,
+}
+
+/// By how much a failed batch's size was above the room.
+#[derive(Clone, Copy, Debug, PartialEq)]
+pub struct Shortfall {
+    /// With the index that was cached when the batch began.
+    pub at_first: u32,
+    /// With the index loaded for it, which made it fail.
+    pub reloaded: u32,
+}
+
+/// What a run went through that its answer does not show.
+#[derive(Default)]
+pub struct Inside {
+    /// Those of the failed pushes and of the failed pops, oldest first.
+    pub shortfalls: [Vec<Shortfall>; 2],
+}
+
+/// The largest of some shortfalls, or 0 where there are none.
+pub fn largest(shortfalls: impl Iterator<Item = u32>) -> u32 {
+    shortfalls.max().unwrap_or(0)
 }
 
 #[derive(Clone)]
@@ -66,7 +89,8 @@ struct Core {
     /// Cached foreign index.
     cached: u32,
     completed_bytes: u32,
-    failed: u32,
+    /// Of its failed batches.
+    shortfalls: Vec<Shortfall>,
 }
 
 /// One store of an index; the initial one is no recorded action.
@@ -100,7 +124,7 @@ impl<'f> Machine<'f> {
             own: 0,
             cached: 0,
             completed_bytes: 0,
-            failed: 0,
+            shortfalls: Vec::new(),
         };
         let initial = vec![Stored {
             value: 0,
@@ -142,6 +166,13 @@ impl<'f> Machine<'f> {
         &self.out
     }
 
+    /// What the run went through, once it is over.
+    pub fn inside(self) -> Inside {
+        Inside {
+            shortfalls: self.cores.map(|core| core.shortfalls),
+        }
+    }
+
     /// Size of the core's batch at hand.
     fn size(&self, core: usize) -> Option<u32> {
         self.file.sizes[core]
@@ -163,6 +194,11 @@ impl<'f> Machine<'f> {
             cached
         };
         (ahead + self.file.modulus - own) % self.file.modulus
+    }
+
+    /// How many bytes of room a batch lacks; 0 where it fits.
+    fn shortfall(&self, core: usize, cached: u32, size: u32) -> u32 {
+        size.saturating_sub(self.room(core, cached))
     }
 
     /// Plays one entry and answers its mark.
@@ -225,8 +261,8 @@ impl<'f> Machine<'f> {
         self.record(core, Deed::OwnLoad);
         let newest = self.stores[core].len() - 1;
         self.cores[core].own = self.stores[core][newest].value;
-        let enough = self.room(core, self.cores[core].cached) >= size;
-        self.cores[core].next = if enough {
+        let shortfall = self.shortfall(core, self.cores[core].cached, size);
+        self.cores[core].next = if shortfall == 0 {
             Self::data_or_store(0, size)
         } else {
             Next::ForeignLoad
@@ -258,20 +294,27 @@ impl<'f> Machine<'f> {
 
     /// Whether the core's foreign load, were it made at this age, would be performed and the batch fail.
     pub fn would_fail(&self, core: usize, age: u8) -> bool {
-        let room = |(store, _): (Stored, Deed)| self.room(core, store.value);
-        let room = self.readable(core, usize::from(age)).map(room).ok();
-        matches!((room, self.size(core)), (Some(room), Some(size)) if !self.halted() && room < size)
+        match (self.readable(core, usize::from(age)), self.size(core)) {
+            (Ok((store, _)), Some(size)) => {
+                !self.halted() && self.shortfall(core, store.value, size) > 0
+            }
+            _ => false,
+        }
     }
 
     fn foreign_load(&mut self, core: usize, size: u32, age: usize) -> Result<u8, u8> {
         let (store, deed) = self.readable(core, age)?;
         self.record(core, deed);
-        self.cores[core].cached = store.value;
-        if self.room(core, store.value) >= size {
+        let before = std::mem::replace(&mut self.cores[core].cached, store.value);
+        let shortfall = Shortfall {
+            at_first: self.shortfall(core, before, size),
+            reloaded: self.shortfall(core, store.value, size),
+        };
+        if shortfall.reloaded == 0 {
             self.cores[core].next = Self::data_or_store(0, size);
             Ok(performed::ROOM_ENOUGH)
         } else {
-            self.cores[core].failed += 1;
+            self.cores[core].shortfalls.push(shortfall);
             self.leave_batch(core, size);
             Ok(performed::BATCH_FAILED)
         }
@@ -329,6 +372,8 @@ impl<'f> Machine<'f> {
         let newest = |core: usize| self.stores[core][self.stores[core].len() - 1].value;
         let modulus = self.file.modulus;
         let (racing, rival) = self.race.unwrap_or((0, 0));
+        let shortfalls = |core: usize| self.cores[core].shortfalls.iter();
+        let missing = |core| largest(shortfalls(core).map(|shortfall| shortfall.reloaded));
         [
             self.performed,
             self.entries - self.performed,
@@ -336,10 +381,12 @@ impl<'f> Machine<'f> {
             self.cores[CONSUMER].completed_bytes,
             self.out.len() as u32,
             (newest(PRODUCER) + modulus - newest(CONSUMER)) % modulus,
-            self.cores[PRODUCER].failed,
-            self.cores[CONSUMER].failed,
+            shortfalls(PRODUCER).len() as u32,
+            shortfalls(CONSUMER).len() as u32,
             racing,
             rival,
+            missing(PRODUCER),
+            missing(CONSUMER),
         ]
     }
 

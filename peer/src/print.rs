@@ -2,17 +2,19 @@
 
 use crate::call::call;
 use crate::file::{MOST_BYTES, REPORT_BYTES};
-use crate::machine::report;
+use crate::machine::{report, Inside};
 
 /// Most bytes that 255 pops of 255 can read.
 pub const MOST_OUT: usize = 255 * 255;
 
 /// A played file: the code, and for code 0 the report's numbers, the marks and the bytes read.
+#[derive(Default)]
 pub struct Played {
     pub code: u8,
     pub numbers: Vec<u32>,
     pub marks: Vec<u8>,
     pub out: Vec<u8>,
+    pub inside: Inside,
 }
 
 /// The numbers that a report's bytes stand for.
@@ -27,24 +29,25 @@ pub fn numbers(report: &[u8]) -> Vec<u32> {
 pub fn play(file: &[u8]) -> Played {
     let (mut marks, mut out) = (vec![0; MOST_BYTES / 2], vec![0; MOST_OUT]);
     let mut written = [0; REPORT_BYTES];
-    let code = call(file, &mut marks, &mut out, &mut written);
-    if code != 0 {
-        return Played {
-            code,
-            numbers: Vec::new(),
-            marks: Vec::new(),
-            out: Vec::new(),
-        };
-    }
+    let inside = match call(file, &mut marks, &mut out, &mut written) {
+        Ok(inside) => inside,
+        Err(code) => {
+            return Played {
+                code,
+                ..Played::default()
+            }
+        }
+    };
     let numbers = numbers(&written);
     // Every entry is performed or refused; every data load made wrote one byte.
     marks.truncate((numbers[0] + numbers[1]) as usize);
     out.truncate(numbers[report::DATA_LOADS] as usize);
     Played {
-        code,
+        code: 0,
         numbers,
         marks,
         out,
+        inside,
     }
 }
 
@@ -82,7 +85,7 @@ mod tests {
         file.extend([1, 0].repeat(4));
         assert_eq!(
             play(&file).text(),
-            "code 0\n7 0 1 1 1 0 0 0 0 0\n1 4 6 1 2 5 6\n65\n"
+            "code 0\n7 0 1 1 1 0 0 0 0 0 0 0\n1 4 6 1 2 5 6\n65\n"
         );
     }
 
@@ -90,7 +93,7 @@ mod tests {
     fn empty_lists_are_empty_lines_and_a_refused_file_is_one_line() {
         assert_eq!(
             play(&[1, 2, 0, 0, 0, 15, 0, 0]).text(),
-            "code 0\n0 0 0 0 0 0 0 0 0 0\n\n\n"
+            "code 0\n0 0 0 0 0 0 0 0 0 0 0 0\n\n\n"
         );
         assert_eq!(play(&[]).text(), "code 1\n");
     }

@@ -1,7 +1,7 @@
 //! How often each code, mark, order setting and border was seen, counted by files.
 
-use crate::file::{MOST_BYTES, MOST_MODULUS, MOST_SLOTS};
-use crate::machine::{performed, refused, report, CONSUMER, PRODUCER};
+use crate::file::{MOST_BYTES, MOST_MODULUS, MOST_SLOTS, REPORT_BYTES};
+use crate::machine::{largest, performed, refused, report, Shortfall, CONSUMER, PRODUCER};
 use crate::print::Played;
 use std::fmt;
 
@@ -12,6 +12,9 @@ pub const WRAPS: [u32; 4] = [1, 2, 3, 10];
 
 /// File lengths about the longest that is lawful.
 pub const LENGTHS: [usize; 3] = [MOST_BYTES - 1, MOST_BYTES, MOST_BYTES + 1];
+
+/// Report lengths about the least that is enough.
+pub const REPORTS: [usize; 2] = [REPORT_BYTES - 1, REPORT_BYTES];
 
 /// Nothing but numbers, so that it may lie in memory that processes share.
 #[derive(Clone, Copy)]
@@ -35,12 +38,22 @@ pub struct Tally {
     pub all_completed: [u64; 2],
     /// Files in which the producer, and the consumer, loaded the foreign index at age 255.
     pub oldest_loads: [u64; 2],
+    /// Files whose largest shortfall of a push, and of a pop, is above 1.
+    pub short_by_more: [u64; 2],
+    /// Files in which the latest failed push, and pop, lacked less than the largest.
+    pub short_by_less: [u64; 2],
+    /// Files whose largest shortfall would be another one before the reloads.
+    pub short_at_first: [u64; 2],
+    /// Files in which pushes and pops failed, with different largest shortfalls.
+    pub both_short: u64,
     /// Lawful files with the greatest ring, and with the greatest modulus.
     pub greatest_ring: u64,
     pub greatest_modulus: u64,
     pub lengths: [u64; LENGTHS.len()],
     /// Calls with a lawful file, by which buffers were too short: marks 1, out 2, report 4, added up.
     pub short: [u64; 8],
+    /// Calls in which nothing else was too short, with reports of these lengths.
+    pub reports: [u64; REPORTS.len()],
     /// Calls with an empty buffer, lent by its address and as a null pointer.
     pub empty: [u64; 2],
     most_entries: u64,
@@ -73,10 +86,15 @@ impl Tally {
             wraps: [[0; WRAPS.len()]; 2],
             all_completed: [0; 2],
             oldest_loads: [0; 2],
+            short_by_more: [0; 2],
+            short_by_less: [0; 2],
+            short_at_first: [0; 2],
+            both_short: 0,
             greatest_ring: 0,
             greatest_modulus: 0,
             lengths: [0; LENGTHS.len()],
             short: [0; 8],
+            reports: [0; REPORTS.len()],
             empty: [0; 2],
             most_entries: 0,
             stale_loads: 0,
@@ -96,6 +114,7 @@ impl Tally {
             self.count_ring(file, played);
             self.count_marks(file, played);
             self.count_entries(file, played);
+            self.count_shortfalls(played);
         }
     }
 
@@ -148,6 +167,19 @@ impl Tally {
         }
     }
 
+    fn count_shortfalls(&mut self, played: &Played) {
+        for (core, shortfalls) in played.inside.shortfalls.iter().enumerate() {
+            let reported = played.numbers[report::SHORTFALL + core];
+            let at_first = largest(shortfalls.iter().map(|shortfall| shortfall.at_first));
+            let less = |latest: &Shortfall| latest.reloaded < reported;
+            self.short_by_more[core] += u64::from(reported > 1);
+            self.short_by_less[core] += u64::from(shortfalls.last().map_or(false, less));
+            self.short_at_first[core] += u64::from(at_first != reported);
+        }
+        let [push, pop] = [PRODUCER, CONSUMER].map(|core| played.numbers[report::SHORTFALL + core]);
+        self.both_short += u64::from(push != 0 && pop != 0 && push != pop);
+    }
+
     /// Takes over what another has counted.
     #[cfg(feature = "library")]
     pub fn add(&mut self, more: &Tally) {
@@ -163,10 +195,15 @@ impl Tally {
         add(&mut self.wraps[CONSUMER], &more.wraps[CONSUMER]);
         add(&mut self.all_completed, &more.all_completed);
         add(&mut self.oldest_loads, &more.oldest_loads);
+        add(&mut self.short_by_more, &more.short_by_more);
+        add(&mut self.short_by_less, &more.short_by_less);
+        add(&mut self.short_at_first, &more.short_at_first);
+        self.both_short += more.both_short;
         self.greatest_ring += more.greatest_ring;
         self.greatest_modulus += more.greatest_modulus;
         add(&mut self.lengths, &more.lengths);
         add(&mut self.short, &more.short);
+        add(&mut self.reports, &more.reports);
         add(&mut self.empty, &more.empty);
         self.most_entries = self.most_entries.max(more.most_entries);
         self.stale_loads += more.stale_loads;
@@ -204,6 +241,20 @@ impl fmt::Display for Tally {
                 "{name}: 255 batches completed in {completed} files, a foreign load at age 255 in {oldest}"
             )?;
         }
+        for (core, name) in ["push", "pop"].into_iter().enumerate() {
+            let [more, less, first] = [self.short_by_more, self.short_by_less, self.short_at_first]
+                .map(|files| files[core]);
+            writeln!(
+                to,
+                "failed {name}: by more than 1 in {more} files, the latest by less than the largest in {less}, \
+                the largest another before the reload in {first}"
+            )?;
+        }
+        writeln!(
+            to,
+            "failed pushes and pops, with different largest shortfalls: {} files",
+            self.both_short
+        )?;
         writeln!(to, "foreign loads of an older store: {}", self.stale_loads)?;
         writeln!(
             to,
@@ -217,9 +268,11 @@ impl fmt::Display for Tally {
             return Ok(());
         }
         let (calls, short, [address, null]) = (self.calls, self.short, self.empty);
+        let [less, enough] = self.reports;
         writeln!(
             to,
-            "calls {calls}; by short buffers (marks 1, out 2, report 4) {short:?}; with an empty one {address}, as a null pointer {null}"
+            "calls {calls}; by short buffers (marks 1, out 2, report 4) {short:?}; a report alone one short {less}, just enough {enough}; \
+            with an empty one {address}, as a null pointer {null}"
         )
     }
 }

@@ -28,8 +28,10 @@ def row(numbers):
     return " ".join(str(n) for n in numbers)
 
 
-def lawful(name, why, content, report, marks, out):
-    write(name, why, content, ["code 0", row(report), row(marks), row(out)])
+# A run that is played. `report` has the first ten numbers; `short` the two after them, the largest shortfall of a failed push and of a failed pop:
+# a failed batch's size less the room by the index that its foreign load read.
+def lawful(name, why, content, report, marks, out, short=(0, 0)):
+    write(name, why, content, ["code 0", row(report + list(short)), row(marks), row(out)])
 
 
 def refused(name, why, content, code):
@@ -45,9 +47,9 @@ def C(n=1, age=0):
 
 
 # The runs worked by hand: m = 1, M = 2.
-def hand(name, why, bits, pushes, pops, schedule, marks, report, out):
+def hand(name, why, bits, pushes, pops, schedule, marks, report, out, short=(0, 0)):
     data = [65, 66][: sum(pushes)]
-    lawful(name, why, run_file(1, 2, bits, pushes, pops, data, schedule), report, marks, out)
+    lawful(name, why, run_file(1, 2, bits, pushes, pops, data, schedule), report, marks, out, short)
 
 
 hand("r1", "one byte through the ring, strong orders", 15, [1], [1], P(3) + C(4),
@@ -55,19 +57,19 @@ hand("r1", "one byte through the ring, strong orders", 15, [1], [1], P(3) + C(4)
 hand("r2", "back's store relaxed: the data load races with the data store", 13, [1], [1], P(3) + C(4),
      [1, 4, 6, 1, 2, 7, 130], [6, 1, 1, 0, 0, 1, 0, 0, 6, 2], [])
 hand("r3", "a load of the initial store: the pop fails", 15, [1], [1], P(3) + C() + C(1, 1),
-     [1, 4, 6, 1, 3], [5, 0, 1, 0, 0, 1, 0, 1, 0, 0], [])
+     [1, 4, 6, 1, 3], [5, 0, 1, 0, 0, 1, 0, 1, 0, 0], [], short=(0, 1))
 hand("r4", "the same store is hidden once a newer one was read", 15, [1], [1, 1], P(3) + C(5) + C(1, 1) + C(),
-     [1, 4, 6, 1, 2, 5, 6, 1, 134, 3], [9, 1, 1, 1, 1, 0, 0, 1, 0, 0], [65])
+     [1, 4, 6, 1, 2, 5, 6, 1, 134, 3], [9, 1, 1, 1, 1, 0, 0, 1, 0, 0], [65], short=(0, 1))
 hand("r5", "front's load relaxed: the second lap's store races with the load before it", 14, [1, 1], [1], P(3) + C(4) + P(3),
      [1, 4, 6, 1, 2, 5, 6, 1, 2, 7], [10, 0, 1, 1, 1, 0, 0, 0, 10, 6], [65])
 hand("r6", "the indexes wrap", 15, [1, 1], [1, 1], P(3) + C(4) + P(4) + C(4),
      [1, 4, 6, 1, 2, 5, 6, 1, 2, 4, 6, 1, 2, 5, 6], [15, 0, 2, 2, 2, 0, 0, 0, 0, 0], [65, 66])
-hand("r7", "a batch above m fails", 15, [2], [], P(2), [1, 3], [2, 0, 0, 0, 0, 0, 1, 0, 0, 0], [])
+hand("r7", "a batch above m fails", 15, [2], [], P(2), [1, 3], [2, 0, 0, 0, 0, 0, 1, 0, 0, 0], [], short=(1, 0))
 hand("r8", "batches of 0 store their index again", 15, [0], [0], P(2) + C(2), [1, 6, 1, 6], [4, 0, 0, 0, 0, 0, 0, 0, 0, 0], [])
 hand("r9", "each refusal but 130 and 134", 15, [2], [], P(1, 1) + P() + P(1, 1) + P() + P() + [(2, 0)],
-     [132, 1, 133, 3, 131, 129], [2, 4, 0, 0, 0, 0, 1, 0, 0, 0], [])
+     [132, 1, 133, 3, 131, 129], [2, 4, 0, 0, 0, 0, 1, 0, 0, 0], [], short=(1, 0))
 hand("older_after_newer", "a relaxed load reads an older store after a newer one: not hidden", 11, [1], [2, 2], P(3) + C(3) + C(1, 1),
-     [1, 4, 6, 1, 3, 1, 3], [7, 0, 1, 0, 0, 1, 0, 2, 0, 0], [])
+     [1, 4, 6, 1, 3, 1, 3], [7, 0, 1, 0, 0, 1, 0, 2, 0, 0], [], short=(0, 2))
 hand("race_after_refusals", "r2 with two refused entries first: the race is told by its place in the whole schedule", 13, [1], [1], [(2, 0)] + P(1, 1) + P(3) + C(4),
      [129, 132, 1, 4, 6, 1, 2, 7, 130], [6, 3, 1, 0, 0, 1, 0, 0, 8, 4], [])
 
@@ -110,7 +112,7 @@ for M in (256, 65536):
            [523, 0, 256, 256, 256, 0, 0, 0, 0, 0], TWICE_MARKS, DATA)
 lawful("full_ring_stale", "m = 128, M = 256: a full ring, a pop of 100 bytes, a push that finds no room in the front it reads",
        run_file(128, 256, 15, [128, 128], [100], DATA, P(130) + C(103) + P() + P(1, 1)),
-       [235, 0, 128, 100, 100, 28, 1, 0, 0, 0], [1] + [4] * 128 + [6] + [1, 2] + [5] * 100 + [6] + [1, 3], DATA[:100])
+       [235, 0, 128, 100, 100, 28, 1, 0, 0, 0], [1] + [4] * 128 + [6] + [1, 2] + [5] * 100 + [6] + [1, 3], DATA[:100], short=(128, 0))
 
 # 255 batches on each side, one byte each, through a ring of one slot: the indexes wrap 127 times.
 ONES = [(i * 5 + 1) % 256 for i in range(255)]
@@ -120,10 +122,42 @@ lawful("batches_255", "255 batches on each side, one slot", run_file(1, 2, 15, [
 # 255 pushes of nothing: 256 stores of back, all of value 0. Age 255 is the initial one.
 lawful("age_255", "age 255 is the initial store of 256; once the newest was read it is hidden, and so is age 1",
        run_file(1, 2, 15, [0] * 255, [1] * 4, [], P(510) + (C() + C(1, 255)) * 2 + C(2) + C() + C(1, 255) + C(1, 1) + C()),
-       [518, 2, 0, 0, 0, 0, 0, 4, 0, 0], [1, 6] * 255 + [1, 3, 1, 3, 1, 3, 1, 134, 134, 3], [])
+       [518, 2, 0, 0, 0, 0, 0, 4, 0, 0], [1, 6] * 255 + [1, 3, 1, 3, 1, 3, 1, 134, 134, 3], [], short=(0, 1))
 lawful("age_past", "of 255 stores age 255 is past the initial one, and age 254 is it",
        run_file(1, 2, 15, [0] * 254, [1], [], P(508) + C() + C(1, 255) + C(1, 254)),
-       [510, 1, 0, 0, 0, 0, 0, 1, 0, 0], [1, 6] * 254 + [1, 133, 3], [])
+       [510, 1, 0, 0, 0, 0, 0, 1, 0, 0], [1, 6] * 254 + [1, 133, 3], [], short=(0, 1))
+
+# How much was missing. LETTERS are the bytes to push, as many as needed.
+LETTERS = [97 + i for i in range(26)]
+lawful("short_large_first", "m = 2: a push fails by 3, then one by 1: the largest counts, not the latest",
+       run_file(2, 4, 15, [5, 3], [], LETTERS[:8], P(4)), [4, 0, 0, 0, 0, 0, 2, 0, 0, 0], [1, 3, 1, 3], [], short=(3, 0))
+lawful("short_small_first", "m = 2: a push fails by 1, then one by 3: the largest counts, not the first",
+       run_file(2, 4, 15, [3, 5], [], LETTERS[:8], P(4)), [4, 0, 0, 0, 0, 0, 2, 0, 0, 0], [1, 3, 1, 3], [], short=(3, 0))
+# The second push of 2 begins with front known as 0, room 0; it reads 1, room 1.
+lawful("short_push_reloaded", "m = 2: a push of 2 has room 0 before the reload and 1 after it: it fails by 1",
+       run_file(2, 4, 15, [2, 2], [1], LETTERS[:4], P(4) + C(4) + P(2)),
+       [10, 0, 2, 1, 1, 1, 1, 0, 0, 0], [1, 4, 4, 6, 1, 2, 5, 6, 1, 3], LETTERS[:1], short=(1, 0))
+# The pop begins with back known as 0, room 0; it reads 2, room 2.
+lawful("short_pop_reloaded", "m = 4: a pop of 3 has room 0 before the reload and 2 after it: it fails by 1",
+       run_file(4, 8, 15, [2], [3], LETTERS[:2], P(4) + C(2)), [6, 0, 2, 0, 0, 2, 0, 1, 0, 0], [1, 4, 4, 6, 1, 3], [], short=(0, 1))
+# Two stores of back, 2 and 4. The first pop of 4 reads 2, room 2; the second reads 4, room 4, and fits.
+lawful("short_stale", "m = 4: a pop of 4 fails by 2 in the older back that it reads, and the next one fits in the newer",
+       run_file(4, 8, 15, [2, 2], [4, 4], LETTERS[:4], P(8) + C() + C(1, 1) + C(7)),
+       [17, 0, 4, 4, 4, 0, 0, 1, 0, 0], [1, 4, 4, 6, 1, 4, 4, 6, 1, 3, 1, 2, 5, 5, 5, 5, 6], LETTERS[:4], short=(0, 2))
+# back is 3, front 0: the pop has room 3, the second push room 1.
+lawful("short_both", "m = 4: a pop of 5 fails by 2, a push of 4 by 3: each is told for itself",
+       run_file(4, 8, 15, [3, 4], [5], LETTERS[:7], P(5) + C(2) + P(2)),
+       [9, 0, 3, 0, 0, 3, 1, 1, 0, 0], [1, 4, 4, 4, 6, 1, 3, 1, 3], [], short=(3, 2))
+# An empty ring of one slot has room 1 for a push and 0 for a pop.
+lawful("short_255", "m = 1: a push of 255 fails by 254, a pop of 255 by 255",
+       run_file(1, 2, 15, [255], [255], bytes(255), P(2) + C(2)), [4, 0, 0, 0, 0, 0, 1, 1, 0, 0], [1, 3, 1, 3], [], short=(254, 255))
+# back has gone 0, 2, 0 and front 0, 2: a full ring. The push of 3 has room (2 + 2 - 0) mod 4 = 0, the pop of 3 room (0 - 2) mod 4 = 2.
+lawful("short_wrapped", "m = 2, M = 4: back has wrapped and front has not: a push of 3 fails by 3, a pop of 3 by 1",
+       run_file(2, 4, 15, [2, 2, 3], [2, 3], LETTERS[:7], P(4) + C(5) + P(5) + P(2) + C(2)),
+       [18, 0, 4, 2, 2, 2, 1, 1, 0, 0], [1, 4, 4, 6, 1, 2, 5, 5, 6, 1, 2, 4, 4, 6, 1, 3, 1, 3], LETTERS[:2], short=(3, 1))
+# The halt of R2 takes nothing back: the pop of 2 before it reads back 1, room 1.
+hand("short_then_race", "a pop fails by 1, and the next one races: the shortfall stays in the report", 13, [1], [2, 1], P(3) + C(4),
+     [1, 4, 6, 1, 3, 1, 7], [7, 0, 1, 0, 0, 1, 0, 1, 7, 2], [], short=(0, 1))
 
 with open(os.path.join(HERE, "README.md"), "w") as f:
     f.write("# Stored runs\n\nEach is a run file, `NAME.run`, and what `runlist` must print for it, `NAME.out`; `make.py` has every expected line, worked by hand.\n\n| run | what it shows |\n|---|---|\n")

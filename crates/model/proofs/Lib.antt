@@ -12,6 +12,7 @@ pub mod Slots
 pub mod Loads
 pub mod Memory
 pub mod Report
+pub mod Shortfall
 pub mod Worked
 pub mod Inverse
 pub mod Sides

@@ -50,12 +50,17 @@ pushes (suc r) core1 = true
 abbrev pub roomOf : (lead M own cached : ℕ) → ℕ
 roomOf lead M own cached = (cached + lead + (M - own)) % M
 
--- Is room below the batch size n?
-abbrev pub shortOf : (lead M n own cached : ℕ) → Bool
-shortOf lead M n own cached = ltb (roomOf lead M own cached) n
+-- The shortfall of a batch of size n: by how much room is below it, or 0 where the batch fits.
+abbrev pub shortfallOf : (lead M n own cached : ℕ) → ℕ
+shortfallOf lead M n own cached = n - roomOf lead M own cached
 
 abbrev pub lead : Shape → Ring → Core → ℕ
 lead g r c = cond (pushes r c) (g .size) 0
 
+-- The shortfall of core c's batch, with the own index and the cached foreign one that it holds.
+abbrev pub shortfall : Shape → Ring → Core → (n own cached : ℕ) → ℕ
+shortfall g r c n own cached = shortfallOf (lead g r c) (g .modulus) n own cached
+
+-- Is room below the batch size: is anything missing?
 abbrev pub isShort : Shape → Ring → Core → (n own cached : ℕ) → Bool
-isShort g r c n own cached = shortOf (lead g r c) (g .modulus) n own cached
+isShort g r c n own cached = ltb 0 (shortfall g r c n own cached)

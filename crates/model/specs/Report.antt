@@ -1,13 +1,14 @@
--- The report: ten numbers, each taken from the results of the run, its trace and the file.
+-- The report: twelve numbers, each taken from the results of the run, its trace and the file.
 use mathlib.Core.Bool.{Bool, true, false, cond, _&&_, not}
 use mathlib.Core.Option.{Option, none, some}
 use mathlib.Core.List.{List, [], _∷_, _++_}
-use Prim.Native.Nat.{ℕ, suc, _+_, _-_, _/_, _%_}
+use Prim.Native.Nat.{ℕ, suc, _+_, _-_, _/_, _%_, max}
 use lib.Dec.{eqb}
 use Rattle.order.specs.Trace.{Core, core0, core1, sameCore, index, Trace, who, latest, valueOf}
 use Rattle.model.specs.File.{total, modulusOf, pushSizes, popSizes}
 use Rattle.model.specs.Marks.{batchFailed, dataLoaded, indexStored, raceFound, isPerformed}
-use Rattle.model.specs.Run.{Result, State, theRing}
+use Rattle.model.specs.Queue.{Shape, Side, Queue, shortfall}
+use Rattle.model.specs.Run.{Result, State, theRing, shapeOf, fresh}
 
 -- How many results pass a test.
 abbrev pub one : Bool → ℕ
@@ -58,7 +59,28 @@ partnerOf (x ∷ xs) = cond (marked raceFound x) (x .partner) (partnerOf xs)
 abbrev pub occupancy : ℕ → Trace → ℕ
 occupancy M t = (valueOf t (latest t (index theRing core0)) + (M - valueOf t (latest t (index theRing core1)))) % M
 
--- The ten numbers of a run of file f, with these results and this end.
+-- By how much core c's batch failed: the batch is the first of those that the core had, the indexes are those that it holds after the reload.
+abbrev pub missed : Shape → Core → (had : List ℕ) → Side → ℕ
+missed g c [] me = 0
+missed g c (n ∷ rest) me = shortfall g theRing c n (me .own) (me .cached)
+
+-- The shortfalls of core c's failed batches, in order. The queue before the first of these results is q.
+abbrev pub shortfallsOf : Shape → Core → Queue → List Result → List ℕ
+shortfallsOf g c q [] = []
+shortfallsOf g c q (x ∷ xs) =
+    let later = shortfallsOf g c (x .queue) xs in
+    cond (markedOf c batchFailed x) (missed g c (q .side c .batches) (x .queue .side c) ∷ later) later
+
+-- The largest of some numbers, 0 of none.
+abbrev pub largest : List ℕ → ℕ
+largest [] = 0
+largest (n ∷ ns) = max n (largest ns)
+
+-- The largest shortfall of core c's failed batches in a run of file f.
+abbrev pub largestShortfall : List ℕ → Core → List Result → ℕ
+largestShortfall f c xs = largest (shortfallsOf (shapeOf f) c (fresh f .queue) xs)
+
+-- The twelve numbers of a run of file f, with these results and this end.
 unfoldable pub numbersOf : List ℕ → List Result → State → List ℕ
 numbersOf f xs z =
     count entryPerformed xs
@@ -71,6 +93,8 @@ numbersOf f xs z =
     ∷ count (markedOf core1 batchFailed) xs
     ∷ raceFrom 1 xs
     ∷ partnerOf xs
+    ∷ largestShortfall f core0 xs
+    ∷ largestShortfall f core1 xs
     ∷ []
 
 -- A number as four bytes, little-endian; and a list of numbers.

@@ -15,7 +15,7 @@ use Rattle.order.specs.Order.{Orders}
 use Rattle.order.specs.computed.Record.{know, rival}
 use Rattle.order.proofs.Trace.{clash, cond-elim, act-next, act-zero, act-kept}
 use Rattle.model.specs.File.{Entry}
-use Rattle.model.specs.Queue.{Shape, start, reload, moving, Queue, roomOf, shortOf}
+use Rattle.model.specs.Queue.{Shape, start, reload, moving, Queue, roomOf, shortfallOf}
 use Rattle.model.specs.Run.{theRing}
 use Rattle.promises.proofs.Turn.{going, Racy, entry, Stands, Turned, kept, own-turn, foreign-turn, index-turn, store-turn, store-races, load-turn, load-races}
 
@@ -28,11 +28,11 @@ times c (suc k) es = entry c ∷ times c k es
 room-is : (lead M own cached d : ℕ) → cached + lead + (M - own) ≡ d + M → d < M → roomOf lead M own cached ≡ d
 room-is lead M own cached d e l = ap (λ z. z % M) e ∙ add-mod-right d M ∙ mod-eq-of-lt l
 
-enough : (lead M n own cached d : ℕ) → cached + lead + (M - own) ≡ d + M → d < M → n ≤ d → shortOf lead M n own cached ≡ false
-enough lead M n own cached d e l h = ap (λ z. ltb z n) (room-is lead M own cached d e l) ∙ le-ltb d n h
+enough : (lead M n own cached d : ℕ) → cached + lead + (M - own) ≡ d + M → d < M → n ≤ d → ltb 0 (shortfallOf lead M n own cached) ≡ false
+enough lead M n own cached d e l h = ap (λ z. ltb 0 (n - z)) (room-is lead M own cached d e l) ∙ le-ltb 0 (n - d) (omega arith)
 
-short : (lead M n own cached d : ℕ) → cached + lead + (M - own) ≡ d + M → d < M → d < n → shortOf lead M n own cached ≡ true
-short lead M n own cached d e l h = ap (λ z. ltb z n) (room-is lead M own cached d e l) ∙ lt-ltb d n h
+short : (lead M n own cached d : ℕ) → cached + lead + (M - own) ≡ d + M → d < M → d < n → ltb 0 (shortfallOf lead M n own cached) ≡ true
+short lead M n own cached d e l h = ap (λ z. ltb 0 (n - z)) (room-is lead M own cached d e l) ∙ lt-ltb 0 (n - d) (omega arith)
 
 -- A rival is an entry of the trace.
 rival-in : (t : Trace) (c : Core) (x : Place) (w : Bool) → rival t c x w ≤ length t

@@ -13,3 +13,4 @@ pub mod Turn
 pub mod Course
 pub mod Files
 pub mod Weak
+pub mod Shortfall

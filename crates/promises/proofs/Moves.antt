@@ -3,7 +3,7 @@ use mathlib.Core.Path.{_≡_, refl, sym, ap, _∙_}
 use mathlib.Core.Logic.{inl, inr}
 use mathlib.Core.Bool.{true, false, cond}
 use mathlib.Core.List.{List, [], _∷_, _++_, append-nil, append-assoc}
-use Prim.Native.Nat.{ℕ, suc, _+_, _%_, _≤_, _<_}
+use Prim.Native.Nat.{ℕ, suc, _+_, _-_, _%_, _≤_, _<_}
 use native.Mathlib.Omega.{arith}
 use native.Mathlib.Nat.{add-zero, mod-add-mod}
 use native.Mathlib.Numerals.{add-one}
@@ -149,7 +149,7 @@ module _ (g : Shape) (r : Ring) (l : Sizes g) (t : Trace) (q : Queue) (I : Invar
     counted = rw (qu .0) (omega arith);
     within = omega arith;
     fits =
-        let u = ltb-false (roomOf (lead g r c) (g .modulus) own v) n sh in
+        let u = ltb-false 0 (n - roomOf (lead g r c) (g .modulus) own v) sh in
         let w = room-of g r l t (I .formed) (I .only) c me (q .side (other c)) mine yours own v k o (s .value) hk h in
         omega arith;
     grip = grip-quiet g a t c r (qu .0) (mine .grip);

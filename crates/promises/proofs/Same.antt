@@ -17,10 +17,10 @@ use Rattle.order.proofs.Chain.{Formed}
 use Rattle.model.specs.Limits.{mostOrderBits, headerBytes}
 use Rattle.model.specs.File.{byteAt, ringSize, modulusOf, orderBits, pushCount, pushSizes, popSizes, sizesEnd, pushBytes, scheduleAt, Entry, scheduleOf, ordersOf}
 use Rattle.model.specs.Codes.{fileTable, bufferTable, table, codeOf}
-use Rattle.model.specs.Queue.{Shape, Phase, start, reload, moving, Queue}
+use Rattle.model.specs.Queue.{Shape, Phase, start, reload, moving, Side, Queue}
 use Rattle.model.specs.Plan.{Plan, refuse, perform, unless-hidden, unless-race, foreignLoadOf, inBatch, ofBatches, plan}
 use Rattle.model.specs.Run.{Result, State, after, coreOf, theRing, Runs, shapeOf, freshSide, fresh}
-use Rattle.model.specs.Report.{numbersOf}
+use Rattle.model.specs.Report.{missed, shortfallsOf, largest, largestShortfall, numbersOf}
 use Rattle.model.specs.Outcome.{Ran, Outcome}
 use Rattle.model.specs.computed.Machine.{decided, entered, step, results, ends}
 use Rattle.model.proofs.Some.{some-run}
@@ -149,9 +149,25 @@ module _ (f : List ℕ) (n : ℕ) where
     halted = false;
   }
 
+  -- What is missing does not depend on the orders.
+  missed-same : (c : Core) (had : List ℕ) (me : Side) → missed (shapeOf (withBits f n)) c had me ≡ missed (shapeOf f) c had me
+  missed-same c [] me = refl
+  missed-same c (k ∷ rest) me = rw (modulus-same, size-same)
+
+  shortfalls-same : (c : Core) (q : Queue) (xs : List Result) → shortfallsOf (shapeOf (withBits f n)) c q xs ≡ shortfallsOf (shapeOf f) c q xs
+  shortfalls-same c q [] = refl
+  shortfalls-same c q (x ∷ xs) = rw (shortfalls-same c (x .queue) xs, missed-same c (q .side c .batches) (x .queue .side c))
+
+  largest-same : (c : Core) (xs : List Result) → largestShortfall (withBits f n) c xs ≡ largestShortfall f c xs
+  largest-same c xs =
+      ap (λ (s : State). largest (shortfallsOf (shapeOf (withBits f n)) c (s .queue) xs)) fresh-same ∙ ap largest (shortfalls-same c (fresh f .queue) xs)
+
   numbers-same : (xs : List Result) (z : State) → numbersOf (withBits f n) xs z ≡ numbersOf f xs z
   unfolding numbersOf
-  numbers-same xs z = rw (pushes-same, pops-same, modulus-same)
+  numbers-same xs z =
+      let p = largest-same core0 xs in
+      let c = largest-same core1 xs in
+      rw (p, c, pushes-same, pops-same, modulus-same)
 
   code-same : orderBits (withBits f n) ≤ mostOrderBits → orderBits f ≤ mostOrderBits → (a b c : ℕ) → codeOf (withBits f n) a b c ≡ codeOf f a b c
   unfolding codeOf table fileTable bufferTable

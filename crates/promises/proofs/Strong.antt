@@ -60,7 +60,7 @@ run-live l I stop = I
 run-live {g} l I (move {s = s} {e = e} {x = x} a p) = run-live l (step-live g l s e x a I) p
 
 -- With strong orders it never halts, and no entry gets the mark of a race.
-run-strong : {g : Shape} {s z : State} {es : List Entry} {xs : List Result} → Sizes g → Strong g theRing → Live g s → s .halted ≡ false
+pub run-strong : {g : Shape} {s z : State} {es : List Entry} {xs : List Result} → Sizes g → Strong g theRing → Live g s → s .halted ≡ false
     → Runs g s es xs z → (z .halted ≡ false) × NeverRaced xs
 run-strong l st I h stop = (h, tt)
 run-strong {g} l st I h (move {s = s} {e = e} {x = x} a p) =
@@ -87,7 +87,7 @@ fresh-half f c b = record {
 fresh-flow : (f : List ℕ) → Flow (ringSize f) 0 0 (replicate (ringSize f) 0) [] []
 fresh-flow f = record { room = length-replicate (ringSize f) 0; sent-length = refl; behind = omega arith; out-is = refl; stands = λ a p q. absurd (omega arith) }
 
-fresh-invariant : (f : List ℕ) → Invariant (shapeOf f) theRing [] (fresh f .queue)
+pub fresh-invariant : (f : List ℕ) → Invariant (shapeOf f) theRing [] (fresh f .queue)
 fresh-invariant f = record {
   formed = tt;
   only = λ j c d p v e. clash (cc);
@@ -95,7 +95,7 @@ fresh-invariant f = record {
   flow = elim [ core0 ↦ λ e. (fresh-flow f, refl) | core1 ↦ λ e. clash (cc) ];
 }
 
-lawful-sizes : (f : List ℕ) → Ranges f → Sizes (shapeOf f)
+pub lawful-sizes : (f : List ℕ) → Ranges f → Sizes (shapeOf f)
 lawful-sizes f h = record {
   some-slot = h .some-slot;
   laps = modulusOf f / ringSize f;
@@ -103,7 +103,7 @@ lawful-sizes f h = record {
   larger = h .above;
 }
 
-strong-orders : (f : List ℕ) → orderBits f ≡ allStrong → Strong (shapeOf f) theRing
+pub strong-orders : (f : List ℕ) → orderBits f ≡ allStrong → Strong (shapeOf f) theRing
 strong-orders f e = record { acquire = elim [ core0 ↦ rw e | core1 ↦ rw e ]; release = elim [ core0 ↦ rw e | core1 ↦ rw e ] }
 
 -- What the invariant says

@@ -4,3 +4,4 @@ pub mod Strong
 pub mod Call
 pub mod Same
 pub mod Weak
+pub mod Shortfall

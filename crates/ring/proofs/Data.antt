@@ -96,8 +96,9 @@ module _ {f : List ℕ} (g : Good f) {s : Ring} {st : State} {xs : List Result} 
   moved-facts : let d = mv.movedOn (coreAt s (num c)) false in
       (d .batch ≡ coreAt s (num c) .batch) × (d .passed ≡ coreAt s (num c) .passed) × (d .moved ≡ coreAt s (num c) .moved + 1)
       × (d .done ≡ coreAt s (num c) .done) × (d .failed ≡ coreAt s (num c) .failed)
+      × (d .largest ≡ coreAt s (num c) .largest)
   unfolding mv.movedOn
-  moved-facts = (refl, refl, refl, refl, refl)
+  moved-facts = (refl, refl, refl, refl, refl, refl)
 
   data-ring : (y i byte entry : ℕ) → y ≡ pl.slotOf (shapeOf f) (st .queue .side c .own) (coreAt s (num c) .moved)
       → i ≡ mv.rivalOf (getD (s .slots) y freshSlot) (num c)
@@ -193,6 +194,7 @@ module _ {f : List ℕ} (g : Good f) {s : Ring} {st : State} {xs : List Result} 
               (drop-drop 1 (coreAt s 0 .passed + coreAt s 0 .moved) (pushBytes f) ∙ ap (λ (j : ℕ). drop j (pushBytes f)) e);
           out-new = rw (put-other (s .cores) core0 d) (r .out-long);
           failed-new = omega arith;
+          largest-new = omega arith;
         });
         mark-is = refl;
         performs = refl;
@@ -270,6 +272,7 @@ module _ {f : List ℕ} (g : Good f) {s : Ring} {st : State} {xs : List Result} 
           feed-new = rw (put-other (s .cores) core1 d) (r .feed-is);
           out-new = rw (put-same (s .cores) core1 d (r .two-cores)) (length-append (st .queue .out) (v ∷ []) ∙ omega (arith, r .out-long));
           failed-new = omega arith;
+          largest-new = omega arith;
         });
         mark-is = refl;
         performs = refl;

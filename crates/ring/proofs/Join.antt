@@ -3,11 +3,11 @@ use mathlib.Core.Path.{_≡_, refl, ap, sym, _∙_}
 use mathlib.Core.Bool.{Bool, true, false, cond, _&&_}
 use mathlib.Core.Option.{some}
 use mathlib.Core.List.{List, [], _∷_, _++_}
-use Prim.Native.Nat.{ℕ, _+_, _-_, _%_, _<_, _≤_}
+use Prim.Native.Nat.{ℕ, _+_, _-_, _%_, _<_, _≤_, max}
 use native.Mathlib.Omega.{arith}
 use native.Mathlib.Nat.{mod-lt}
 use native.Mathlib.Numerals.{add-one}
-use lib.Dec.{eqb}
+use lib.Dec.{eqb, ltb}
 use lib.ListN.{getD, set, length, drop, length-append}
 use lib.Seq.{drop-drop}
 use borrow.Author.Tests.{ltb-true, lt-ltb, le-ltb, le-leb}
@@ -17,10 +17,10 @@ use Rattle.order.specs.computed.Record.{know, learn, newer}
 use Rattle.order.proofs.Trace.{cond-elim, and-false}
 use Rattle.model.specs.File.{ringSize, modulusOf, orderBits, pushBytes, ordersOf}
 use Rattle.model.specs.Marks.{ownLoaded, foreignLoaded, batchFailed, indexStored, raceFound}
-use Rattle.model.specs.Queue.{Shape, Phase, start, reload, moving, Side, Queue, pushes, shortOf, lead, isShort}
+use Rattle.model.specs.Queue.{Shape, Phase, start, reload, moving, Side, Queue, pushes, shortfallOf, shortfall, lead, isShort}
 use Rattle.model.specs.Plan as pl
 use Rattle.model.specs.Run.{Result, performed, State, after, shapeOf}
-use Rattle.model.specs.Report.{one, entryPerformed}
+use Rattle.model.specs.Report.{one, entryPerformed, missed}
 use Rattle.model.specs.computed.Machine.{decided, entered, step}
 use Rattle.model.proofs.Total.{total-take-suc}
 use Rattle.ring.specs.declared.state.Stores.{Stores}
@@ -99,14 +99,14 @@ no-slot e c y = and-false (sameCore e c)
 
 -- Room is short of a batch that has a byte.
 short-pos : (g : Shape) (c : Core) (n own cached : ℕ) → isShort g 0 c n own cached ≡ true → 0 < n
-short-pos g c n own cached e = let l = ltb-true ((cached + lead g 0 c + (g .modulus - own)) % g .modulus) n e in omega arith
+short-pos g c n own cached e = let l = ltb-true 0 (shortfall g 0 c n own cached) e in omega arith
 
-short-eq : (n l l′ M M′ own own′ k k′ : ℕ) → l ≡ l′ → M ≡ M′ → own ≡ own′ → k ≡ k′ → shortOf l M n own k ≡ shortOf l′ M′ n own′ k′
+short-eq : (n l l′ M M′ own own′ k k′ : ℕ) → l ≡ l′ → M ≡ M′ → own ≡ own′ → k ≡ k′ → shortfallOf l M n own k ≡ shortfallOf l′ M′ n own′ k′
 short-eq n l l′ M M′ own own′ k k′ a b c d = cc
 
 -- The code's room question is the definition's.
 short-same : {f : List ℕ} {s : Ring} {st : State} {xs : List Result} → Rep f s st xs → (c : Core) (n own own′ k k′ : ℕ) → own ≡ own′ → k ≡ k′
-    → shortOf (mv.leadOf (num c) (s .size)) (s .modulus) n own k ≡ isShort (shapeOf f) 0 c n own′ k′
+    → shortfallOf (mv.leadOf (num c) (s .size)) (s .modulus) n own k ≡ shortfall (shapeOf f) 0 c n own′ k′
 short-same {f} {s} r c n own own′ k k′ e e′ =
     short-eq n (mv.leadOf (num c) (s .size)) (lead (shapeOf f) 0 c) (s .modulus) (modulusOf f) own own′ k k′ (lead-is f c (s .size) (r .size-is)) (r .modulus-is) e e′
 
@@ -123,8 +123,9 @@ module _ {f : List ℕ} (g : Good f) {s : Ring} {st : State} {xs : List Result} 
       → feed ≡ drop (getD (set (s .cores) (num c) d) 0 freshCore .passed + getD (set (s .cores) (num c) d) 0 freshCore .moved) (pushBytes f)
       → d .done + d .moved ≡ coreAt s (num c) .done + coreAt s (num c) .moved
       → d .failed ≡ coreAt s (num c) .failed + one (eqb mark batchFailed)
+      → d .largest ≡ max (coreAt s (num c) .largest) (cond (eqb mark batchFailed) (missed (shapeOf f) c (st .queue .side c .batches) me) 0)
       → Joined f (mv.withCore s (num c) d mark) st xs (performed mark a (pl.turned (st .queue) c me feed))
-  core-joined a mark d me feed acts plain no5 ns na core later fed outs fails =
+  core-joined a mark d me feed acts plain no5 ns na core later fed outs fails misses =
       let s′ : Ring = mv.withCore s (num c) d mark in
       let same = list-same s s′ refl refl in
       record {
@@ -147,6 +148,7 @@ module _ {f : List ℕ} (g : Good f) {s : Ring} {st : State} {xs : List Result} 
           feed-new = fed;
           out-new = r .out-long ∙ sym (out-keeps (s .cores) (r .two-cores) c d outs);
           failed-new = fails;
+          largest-new = misses;
         });
         mark-is = refl;
         performs = le-leb mark raceFound (omega (arith, plain));
@@ -188,9 +190,9 @@ module _ {f : List ℕ} (g : Good f) {s : Ring} {st : State} {xs : List Result} 
 
   own-facts : (v n : ℕ) (b : Bool) → let d = mv.ownLoaded (coreAt s (num c)) v n b in
       (coreAt s (num c) .batch ≤ d .batch) × (d .passed ≡ coreAt s (num c) .passed) × (d .moved ≡ 0) × (d .done ≡ coreAt s (num c) .done)
-      × (d .failed ≡ coreAt s (num c) .failed)
+      × (d .failed ≡ coreAt s (num c) .failed) × (d .largest ≡ coreAt s (num c) .largest)
   unfolding mv.ownLoaded
-  own-facts v n b = (omega arith, refl, refl, refl, refl)
+  own-facts v n b = (omega arith, refl, refl, refl, refl, refl)
 
   own-ring : (v : ℕ) → v ≡ valueOf (st .trace) (latest (st .trace) (index 0 c))
       → mv.ownLoad s (num c) (sizeAt f (num c) (coreAt s (num c) .batch))
@@ -228,12 +230,13 @@ module _ {f : List ℕ} (g : Good f) {s : Ring} {st : State} {xs : List Result} 
       (r .feed-is ∙ ap (λ k. drop k (pushBytes f)) (sym (feed-keeps (s .cores) (r .two-cores) c d (omega (arith, own-facts v n b, still)))))
       (omega (arith, own-facts v n b, still))
       (omega (arith, own-facts v n b))
+      (omega (arith, own-facts v n b))
       )
 
   -- 2. The foreign load.
 
-  failed-core : (a : Act) (v k : ℕ) → k ≡ know (ordersOf (orderBits f)) (a ∷ st .trace) c → st .queue .side c .phase ≡ reload
-      → CoreRep f (a ∷ st .trace) c (mv.foreignLoaded (coreAt s (num c)) v k true) (record {
+  failed-core : (a : Act) (v k x : ℕ) → k ≡ know (ordersOf (orderBits f)) (a ∷ st .trace) c → st .queue .side c .phase ≡ reload
+      → CoreRep f (a ∷ st .trace) c (mv.batchLost (coreAt s (num c)) v k x) (record {
         batches = drop (coreAt s (num c) .batch + 1) (sizesOf f c);
         phase = start;
         own = st .queue .side c .own;
@@ -241,8 +244,8 @@ module _ {f : List ℕ} (g : Good f) {s : Ring} {st : State} {xs : List Result} 
         moved = [];
         completed = st .queue .side c .completed;
       })
-  unfolding mv.foreignLoaded
-  failed-core a v k ek ep =
+  unfolding mv.batchLost
+  failed-core a v k x ek ep =
       let d = r .core-is c in
       let still : coreAt s (num c) .moved ≡ 0 = d .moved-is ∙ ap progress ep in
       let en : coreAt s (num c) .size ≡ getD (sizesOf f c) (coreAt s (num c) .batch) 0 = (rw ep at (d .sized)) .1 in
@@ -265,7 +268,7 @@ module _ {f : List ℕ} (g : Good f) {s : Ring} {st : State} {xs : List Result} 
       }
 
   kept-core : (a : Act) (v k : ℕ) → k ≡ know (ordersOf (orderBits f)) (a ∷ st .trace) c → st .queue .side c .phase ≡ reload
-      → CoreRep f (a ∷ st .trace) c (mv.foreignLoaded (coreAt s (num c)) v k false) (record {
+      → CoreRep f (a ∷ st .trace) c (mv.batchKept (coreAt s (num c)) v k) (record {
         batches = getD (sizesOf f c) (coreAt s (num c) .batch) 0 ∷ drop (coreAt s (num c) .batch + 1) (sizesOf f c);
         phase = moving 0;
         own = st .queue .side c .own;
@@ -273,7 +276,7 @@ module _ {f : List ℕ} (g : Good f) {s : Ring} {st : State} {xs : List Result} 
         moved = [];
         completed = st .queue .side c .completed;
       })
-  unfolding mv.foreignLoaded
+  unfolding mv.batchKept
   kept-core a v k ek ep =
       let d = r .core-is c in
       let still : coreAt s (num c) .moved ≡ 0 = d .moved-is ∙ ap progress ep in
@@ -298,9 +301,10 @@ module _ {f : List ℕ} (g : Good f) {s : Ring} {st : State} {xs : List Result} 
 
   foreign-ring : (age e v k : ℕ) → age < listOf s (other c) .count → e ≡ getD (listOf s (other c) .entries) (placeOf (listOf s (other c)) age) 0
       → v ≡ valueOf (st .trace) e → k ≡ know (ordersOf (orderBits f)) (load c (index 0 (other c)) e ∷ st .trace) c → st .queue .side c .phase ≡ reload
-      → let b = isShort (shapeOf f) 0 c (getD (sizesOf f c) (coreAt s (num c) .batch) 0) (st .queue .side c .own) v in
-      mv.foreignLoad s (num c) age ≡ mv.withCore s (num c) (mv.foreignLoaded (coreAt s (num c)) v k b) (mv.foreignMark b)
-  unfolding mv.foreignLoad
+      → let x = shortfall (shapeOf f) 0 c (getD (sizesOf f c) (coreAt s (num c) .batch) 0) (st .queue .side c .own) v in
+      mv.foreignLoad s (num c) age
+      ≡ mv.withCore s (num c) (cond (ltb 0 x) (mv.batchLost (coreAt s (num c)) v k x) (mv.batchKept (coreAt s (num c)) v k)) (mv.foreignMark (ltb 0 x))
+  unfolding mv.foreignLoad mv.foreignLoaded
   foreign-ring age e v k small ee ev ek ep =
       let theirs : Stores = listOf s (other c) in
       let th : chosen (num c) (s .front) (s .back) ≡ listOf s (other c) = chosen-other c (listOf s) in
@@ -332,41 +336,46 @@ module _ {f : List ℕ} (g : Good f) {s : Ring} {st : State} {xs : List Result} 
           (drop-drop n (coreAt s 0 .passed + coreAt s 0 .moved) (pushBytes f) ∙ ap (λ (k : ℕ). drop k (pushBytes f)) l)
       go core1 ec en ep em = rw (put-other (s .cores) core1 d) (r .feed-is)
 
-  failed-facts : (v k : ℕ) → let d = mv.foreignLoaded (coreAt s (num c)) v k true in
+  failed-facts : (v k x : ℕ) → let d = mv.batchLost (coreAt s (num c)) v k x in
       (d .batch ≡ coreAt s (num c) .batch + 1) × (d .passed ≡ coreAt s (num c) .passed + coreAt s (num c) .size) × (d .moved ≡ coreAt s (num c) .moved)
       × (d .done ≡ coreAt s (num c) .done) × (d .failed ≡ coreAt s (num c) .failed + 1) × (mv.foreignMark true ≡ batchFailed)
-  unfolding mv.foreignLoaded mv.foreignMark
-  failed-facts v k = (refl, refl, refl, refl, refl, refl)
+      × (d .largest ≡ max (coreAt s (num c) .largest) x)
+  unfolding mv.batchLost mv.foreignMark
+  failed-facts v k x = (refl, refl, refl, refl, refl, refl, refl)
 
-  kept-facts : (v k : ℕ) → let d = mv.foreignLoaded (coreAt s (num c)) v k false in
+  kept-facts : (v k : ℕ) → let d = mv.batchKept (coreAt s (num c)) v k in
       (d .batch ≡ coreAt s (num c) .batch) × (d .passed ≡ coreAt s (num c) .passed) × (d .moved ≡ coreAt s (num c) .moved)
       × (d .done ≡ coreAt s (num c) .done) × (d .failed ≡ coreAt s (num c) .failed) × (mv.foreignMark false ≡ foreignLoaded)
-  unfolding mv.foreignLoaded mv.foreignMark
-  kept-facts v k = (refl, refl, refl, refl, refl, refl)
+      × (d .largest ≡ coreAt s (num c) .largest)
+  unfolding mv.batchKept mv.foreignMark
+  kept-facts v k = (refl, refl, refl, refl, refl, refl, refl)
 
   -- By whether room is still short.
-  by-room : (e v k : ℕ) (b : Bool) → k ≡ know (ordersOf (orderBits f)) (load c (index 0 (other c)) e ∷ st .trace) c → st .queue .side c .phase ≡ reload
+  by-room : (e v k x : ℕ) (b : Bool) → x ≡ shortfall (shapeOf f) 0 c (getD (sizesOf f c) (coreAt s (num c) .batch) 0) (st .queue .side c .own) v
+      → k ≡ know (ordersOf (orderBits f)) (load c (index 0 (other c)) e ∷ st .trace) c → st .queue .side c .phase ≡ reload
       → newer (stores (st .trace) (index 0 (other c))) e (know (ordersOf (orderBits f)) (st .trace) c) ≡ false
-      → Joined f (mv.withCore s (num c) (mv.foreignLoaded (coreAt s (num c)) v k b) (mv.foreignMark b)) st xs
+      → Joined f (mv.withCore s (num c) (cond b (mv.batchLost (coreAt s (num c)) v k x) (mv.batchKept (coreAt s (num c)) v k)) (mv.foreignMark b)) st xs
       (decided (ordersOf (orderBits f)) c (st .queue) (st .trace) (cond b
       (pl.failBatch 0 c (st .queue) (getD (sizesOf f c) (coreAt s (num c) .batch) 0) (drop (coreAt s (num c) .batch + 1) (sizesOf f c)) e v)
       (pl.keepBatch 0 c (st .queue) (getD (sizesOf f c) (coreAt s (num c) .batch) 0) (drop (coreAt s (num c) .batch + 1) (sizesOf f c)) e v)))
-  by-room e v k true ek ep new =
+  by-room e v k x true ex ek ep new =
       let a : Act = load c (index 0 (other c)) e in
-      let d : rc.Core = mv.foreignLoaded (coreAt s (num c)) v k true in
-      let z = failed-facts v k in
+      let d : rc.Core = mv.batchLost (coreAt s (num c)) v k x in
+      let z = failed-facts v k x in
+      let me : Side = record { batches = drop (coreAt s (num c) .batch + 1) (sizesOf f c); phase = start; own = st .queue .side c .own; cached = v; moved = []; completed = st .queue .side c .completed } in
+      let by : missed (shapeOf f) c (st .queue .side c .batches) me ≡ x = ap (λ (l : List ℕ). missed (shapeOf f) c l me) batches ∙ sym ex in
       let en : getD (sizesOf f c) (coreAt s (num c) .batch) 0 ≡ coreAt s (num c) .size = sym ((rw ep at (r .core-is c .sized)) .1) in
       rw (z .5, new) (
-      core-joined a batchFailed d _ _ refl (omega arith) refl (λ x. refl) (λ x y. no-slot x c y) (failed-core a v k ek ep)
-      (omega arith) (feed-skips (getD (sizesOf f c) (coreAt s (num c) .batch) 0) d en (z .1) (z .2)) (omega arith) (omega arith)
+      core-joined a batchFailed d _ _ refl (omega arith) refl (λ x. refl) (λ x y. no-slot x c y) (failed-core a v k x ek ep)
+      (omega arith) (feed-skips (getD (sizesOf f c) (coreAt s (num c) .batch) 0) d en (z .1) (z .2)) (omega arith) (omega arith) (omega arith)
       )
-  by-room e v k false ek ep new =
+  by-room e v k x false ex ek ep new =
       let a : Act = load c (index 0 (other c)) e in
-      let d : rc.Core = mv.foreignLoaded (coreAt s (num c)) v k false in
+      let d : rc.Core = mv.batchKept (coreAt s (num c)) v k in
       let z = kept-facts v k in
       rw (z .5, new) (
       core-joined a foreignLoaded d _ _ refl (omega arith) refl (λ x. refl) (λ x y. no-slot x c y) (kept-core a v k ek ep)
-      (omega arith) (r .feed-is ∙ ap (λ (j : ℕ). drop j (pushBytes f)) (sym (feed-keeps (s .cores) (r .two-cores) c d (omega arith)))) (omega arith) (omega arith)
+      (omega arith) (r .feed-is ∙ ap (λ (j : ℕ). drop j (pushBytes f)) (sym (feed-keeps (s .cores) (r .two-cores) c d (omega arith)))) (omega arith) (omega arith) (omega arith)
       )
 
   pub foreign-joined : st .queue .side c .phase ≡ reload → (age : ℕ) → age < listOf s (other c) .count
@@ -386,7 +395,7 @@ module _ {f : List ℕ} (g : Good f) {s : Ring} {st : State} {xs : List Result} 
       step-is f st c age h ∙ ap (decided (ordersOf (orderBits f)) c q t)
       (ap (pl.ofBatches (shapeOf f) 0 c q t age) batches ∙ ap (pl.inBatch (shapeOf f) 0 c q t age n rest) ep
       ∙ ap (pl.foreignLoadOf (shapeOf f) 0 c q t n rest) (r .list-is (other c) .entry-is age small)) in
-      rw (foreign-ring age e v k small refl refl refl ep, ex) (by-room e v k (isShort (shapeOf f) 0 c n (q .side c .own) v) refl ep new)
+      rw (foreign-ring age e v k small refl refl refl ep, ex) (by-room e v k (shortfall (shapeOf f) 0 c n (q .side c .own) v) (isShort (shapeOf f) 0 c n (q .side c .own) v) refl refl ep new)
 
   -- 4. The index store.
 
@@ -426,8 +435,9 @@ module _ {f : List ℕ} (g : Good f) {s : Ring} {st : State} {xs : List Result} 
   done-facts : let d = mv.completed (coreAt s (num c)) in
       (d .batch ≡ coreAt s (num c) .batch + 1) × (d .passed ≡ coreAt s (num c) .passed + coreAt s (num c) .size) × (d .moved ≡ 0)
       × (d .done ≡ coreAt s (num c) .done + coreAt s (num c) .size) × (d .failed ≡ coreAt s (num c) .failed)
+      × (d .largest ≡ coreAt s (num c) .largest)
   unfolding mv.completed
-  done-facts = (refl, refl, refl, refl, refl)
+  done-facts = (refl, refl, refl, refl, refl, refl)
 
 -- The ring after core c's index store.
 abbrev stored : Ring → Core → (value entry : ℕ) → Ring
@@ -518,6 +528,7 @@ module _ {f : List ℕ} (g : Good f) {s : Ring} {st : State} {xs : List Result} 
           feed-new = r .feed-is ∙ ap (λ (k : ℕ). drop k (pushBytes f)) (sym (feed-keeps (s .cores) (r .two-cores) c d (omega (arith, z, moved, sz .1, sz .2, past))));
           out-new = r .out-long ∙ sym (out-keeps (s .cores) (r .two-cores) c d (omega (arith, z, moved, sz .1, sz .2, past)));
           failed-new = omega (arith, z);
+          largest-new = omega (arith, z);
         });
         mark-is = refl;
         performs = refl;

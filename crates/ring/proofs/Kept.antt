@@ -3,7 +3,7 @@ use mathlib.Core.Path.{_≡_, refl, ap, sym, _∙_}
 use mathlib.Core.Bool.{Bool, true, false, not, cond}
 use mathlib.Core.Option.{some}
 use mathlib.Core.List.{List, [], _∷_, _++_}
-use Prim.Native.Nat.{ℕ, suc, _+_, _<_, _≤_}
+use Prim.Native.Nat.{ℕ, suc, _+_, _<_, _≤_, max}
 use native.Mathlib.Omega.{arith}
 use lib.Dec.{eqb}
 use lib.ListN.{getD, set, length, drop, length-set}
@@ -15,8 +15,9 @@ use Rattle.model.proofs.Sides.{with-same, with-other}
 use Rattle.model.specs.File.{ringSize, modulusOf, orderBits, pushBytes, ordersOf}
 use Rattle.model.specs.Marks.{batchFailed, raceFound, noSuchCore}
 use Rattle.model.specs.Queue.{Side, Queue, withSide}
-use Rattle.model.specs.Run.{Result, refused, performed, raced, State, after}
-use Rattle.model.specs.Report.{one, count, marked, markedOf, raceFrom, partnerOf}
+use Rattle.model.specs.Run.{Result, refused, performed, raced, State, after, shapeOf, fresh}
+use Rattle.model.specs.Report.{one, count, marked, markedOf, raceFrom, partnerOf, missed, largestShortfall}
+use Rattle.model.proofs.Shortfall.{lastQueue, last-more, failedBy, largest-more}
 use Rattle.ring.specs.declared.state.Core as rc
 use Rattle.ring.specs.declared.state.Ring.{Ring}
 use Rattle.ring.specs.computed.State.{freshCore, coreAt}
@@ -71,6 +72,9 @@ refused-kept {f} {s} {st} {xs} r n l =
       out-long = r .out-long;
       failed-is = λ c. let k = count-more (markedOf c batchFailed) xs x in
           let z : one (markedOf c batchFailed x) ≡ 0 = rw e3 in omega (arith, r .failed-is c);
+      queue-is = last-more (fresh f .queue) xs x;
+      largest-is = λ c. let z : failedBy (shapeOf f) c (lastQueue (fresh f .queue) xs) x ≡ 0 = rw e3 in
+          omega (arith, r .largest-is c, largest-more (shapeOf f) c (fresh f .queue) xs x);
       race-is = r .race-is ∙ sym (still .0);
       partner-is = r .partner-is ∙ sym (still .1);
       entries-are = omega (arith, r .entries-are, length-more xs x);
@@ -96,6 +100,7 @@ pub record Moves (f : List ℕ) (s s′ : Ring) (st : State) (c : Core) (a : Act
   pub feed-new : q .feed ≡ drop (coreAt s′ 0 .passed + coreAt s′ 0 .moved) (pushBytes f)
   pub out-new : length (q .out) ≡ coreAt s′ 1 .done + coreAt s′ 1 .moved
   pub failed-new : d .failed ≡ coreAt s (num c) .failed + one (eqb mark batchFailed)
+  pub largest-new : d .largest ≡ max (coreAt s (num c) .largest) (cond (eqb mark batchFailed) (missed (shapeOf f) c (st .queue .side c .batches) me) 0)
 
 pub moved-kept : {f : List ℕ} {s s′ : Ring} {st : State} {xs : List Result} {c : Core} {a : Act} {mark : ℕ} {q : Queue} {d : rc.Core} {me : Side}
     → Rep f s st xs → st .halted ≡ false → Moves f s s′ st c a mark q d me
@@ -136,6 +141,17 @@ moved-kept {f} {s} {s′} {st} {xs} {c} {a} {mark} {q} {d} {me} r h m =
           let z : one (markedOf (other c) batchFailed x) ≡ 0 = rw (m .acts, same-other c, and-false (eqb mark batchFailed)) in
           let w : coreAt s′ (num (other c)) .failed ≡ coreAt s (num (other c)) .failed = ap (λ (b : rc.Core). b .failed) theirs in
           omega (arith, r .failed-is (other c)));
+      queue-is = last-more (fresh f .queue) xs x;
+      largest-is = both (λ (e : Core). coreAt s′ (num e) .largest ≡ largestShortfall f e (xs ++ (x ∷ []))) c
+          (let k = largest-more (shapeOf f) c (fresh f .queue) xs x in
+          let z : failedBy (shapeOf f) c (lastQueue (fresh f .queue) xs) x ≡ cond (eqb mark batchFailed) (missed (shapeOf f) c (st .queue .side c .batches) me) 0 =
+          rw (r .queue-is, my-side, m .acts, same-self c, and-with (eqb mark batchFailed)) in
+          let w : coreAt s′ (num c) .largest ≡ d .largest = ap (λ (b : rc.Core). b .largest) mine in
+          omega (arith, r .largest-is c, m .largest-new))
+          (let k = largest-more (shapeOf f) (other c) (fresh f .queue) xs x in
+          let z : failedBy (shapeOf f) (other c) (lastQueue (fresh f .queue) xs) x ≡ 0 = rw (m .acts, same-other c, and-false (eqb mark batchFailed)) in
+          let w : coreAt s′ (num (other c)) .largest ≡ coreAt s (num (other c)) .largest = ap (λ (b : rc.Core). b .largest) theirs in
+          omega (arith, r .largest-is (other c)));
       race-is = m .race-same ∙ sym race0 ∙ r .race-is ∙ sym (still .0);
       partner-is = m .partner-same ∙ partner0 ∙ sym (still .1);
       entries-are = omega (arith, r .entries-are, length-more xs x);
@@ -171,6 +187,10 @@ raced-kept {f} {s} {s′} {st} {xs} {c} {a} {i} r h acts learns stores e1 e2 e3 
       failed-is = λ e. let k = count-more (markedOf e batchFailed) xs x in
           let w : coreAt s′ (num e) .failed ≡ coreAt s (num e) .failed = ap (λ (b : rc.Core). b .failed) (core e) in
           omega (arith, r .failed-is e);
+      queue-is = last-more (fresh f .queue) xs x;
+      largest-is = λ e. let k = largest-more (shapeOf f) e (fresh f .queue) xs x in
+          let w : coreAt s′ (num e) .largest ≡ coreAt s (num e) .largest = ap (λ (b : rc.Core). b .largest) (core e) in
+          omega (arith, r .largest-is e);
       race-is = e8 ∙ omega (arith, r .entries-are) ∙ sym (more .0);
       partner-is = e9 ∙ sym (more .1);
       entries-are = omega (arith, r .entries-are, length-more xs x);

@@ -27,7 +27,7 @@ use Rattle.ring.specs.declared.state.Ring.{Ring}
 use Rattle.ring.specs.declared.state.Ran.{Ran}
 use Rattle.ring.specs.computed.State.{freshStores, freshSlots, freshSlot, freshCore, freshOf, newestOf}
 use Rattle.ring.specs.computed.Run.{nextPlace, putByte, resultsOf, endOf, Finished}
-use Rattle.ring.specs.computed.Report.{tenOf}
+use Rattle.ring.specs.computed.Report.{toldOf}
 use Rattle.ring.proofs.Parts.{sizesOf, Good, sizes-few, size-small}
 use Rattle.ring.proofs.Lists.{Listed, newest-is, newest-below}
 use Rattle.ring.proofs.Rep.{CoreRep, Rep, short, count-more, length-more}
@@ -143,6 +143,8 @@ fresh-rep {f} g = record {
   feed-is = refl;
   out-long = refl;
   failed-is = elim [ core0 ↦ refl | core1 ↦ refl ];
+  queue-is = refl;
+  largest-is = elim [ core0 ↦ refl | core1 ↦ refl ];
   race-is = refl;
   partner-is = refl;
   entries-are = refl;
@@ -293,11 +295,11 @@ counted {f} {i = i} z =
 pops-all : (f : List ℕ) → total (take (length (popSizes f)) (popSizes f)) ≡ total (popSizes f)
 pops-all f = ap total (take-length (popSizes f))
 
--- The code's ten numbers are the definition's.
-ten-numbers : {f : List ℕ} → Good f → {marks₀ out₀ marks out : List ℕ} {s : Ring} {performed k i : ℕ} → Going f marks₀ out₀ marks out s performed k i
-    → (n : ℕ) → n ≡ i → tenOf (record { ring = s; performed = performed; loads = k }) n ≡ numbersOf f (resultsTo f i) (endTo f i)
-unfolding tenOf numbersOf
-ten-numbers {f} g {s = s} {performed = performed} {k = k} {i = i} z n en =
+-- The code's numbers are the definition's.
+told-numbers : {f : List ℕ} → Good f → {marks₀ out₀ marks out : List ℕ} {s : Ring} {performed k i : ℕ} → Going f marks₀ out₀ marks out s performed k i
+    → (n : ℕ) → n ≡ i → toldOf (record { ring = s; performed = performed; loads = k }) n ≡ numbersOf f (resultsTo f i) (endTo f i)
+unfolding toldOf numbersOf
+told-numbers {f} g {s = s} {performed = performed} {k = k} {i = i} z n en =
     let ran = some-run (shapeOf f) (fresh f) (take i (scheduleOf f)) tt in
     let r = z .rep in
     let refused-are : n - performed ≡ count entryRefused (resultsTo f i) = omega (arith, counted z) in
@@ -308,7 +310,7 @@ ten-numbers {f} g {s = s} {performed = performed} {k = k} {i = i} z n en =
     let c = newest-is (r .list-is core1) in
     let m = r .modulus-is in
     let left : (newestOf (s .back) + (s .modulus - newestOf (s .front))) % s .modulus ≡ occupancy (modulusOf f) (endTo f i .trace) = cc (b, c, m) in
-    cc (z .performed-is, refused-are, pushed-are, popped-are, loads-are, left, r .failed-is core0, r .failed-is core1, r .race-is, r .partner-is)
+    cc (z .performed-is, refused-are, pushed-are, popped-are, loads-are, left, r .failed-is core0, r .failed-is core1, r .race-is, r .partner-is, r .largest-is core0, r .largest-is core1)
 
 -- THE END of the run: every entry was tried.
 pub finished : {f : List ℕ} → Good f → {marks₀ out₀ marks out : List ℕ} {s : Ring} {performed k i : ℕ} → Going f marks₀ out₀ marks out s performed k i
@@ -319,7 +321,7 @@ finished {f} g {marks₀} {out₀} {marks} {out} {s} {performed} {k} {i} z past 
     let all : take i (scheduleOf f) ≡ scheduleOf f = take-all i (scheduleOf f) past in
     let eR : resultsTo f i ≡ resultsOf f = ap (results (shapeOf f) (fresh f)) all in
     let eE : endTo f i ≡ endOf f = ap (ends (shapeOf f) (fresh f)) all in
-    let numbers = ten-numbers g z n (sym ei) in
+    let numbers = told-numbers g z n (sym ei) in
     rw er (record {
       marks-are = rw (← eR, ← ei) (z .marks-are);
       out-is = rw (← eE, ← (z .place-is)) (z .out-is);

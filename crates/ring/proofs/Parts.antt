@@ -5,7 +5,6 @@ use mathlib.Core.List.{List, [], _∷_}
 use Prim.Native.Nat.{ℕ, zero, suc, _+_, _/_, _%_, _<_, _≤_, max}
 use native.Mathlib.Omega.{arith}
 use native.Mathlib.Numerals.{add-one}
-use borrow.Author.Tests.{ltb-true, ltb-false}
 use lib.Dec.{eqb, ltb}
 use lib.ListN.{getD, length, take, drop}
 use lib.Seq.{drop-cons, getD-take, getD-drop}
@@ -114,13 +113,9 @@ unfolding syncsOf
 syncs-is n core0 = let e : n / 1 ≡ n = omega arith in rw e (and-cond (eqb (n % 2) 1) (bit n 3))
 syncs-is n core1 = and-cond (bit n 2) (bit n 1)
 
-learnt-go : (b : Bool) (a s : ℕ) → cond b (cond (ltb a s) s a) a ≡ max a (cond b s 0)
+learnt-go : (b : Bool) (a s : ℕ) → cond b (max a s) a ≡ max a (cond b s 0)
 learnt-go false a s = omega arith
-learnt-go true a s = go (ltb a s) refl
-  where
-    go : (x : Bool) → ltb a s ≡ x → cond x s a ≡ max a s
-    go true e = omega (arith, ltb-true a s e)
-    go false e = omega (arith, ltb-false a s e)
+learnt-go true a s = refl
 
 pub learnt-is : (n : ℕ) (t : Trace) (c : Core) (s : ℕ)
     → learntOf (syncsOf n (num c)) (know (ordersOf n) t c) s ≡ know (ordersOf n) (load c (index 0 (other c)) s ∷ t) c

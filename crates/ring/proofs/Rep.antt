@@ -14,9 +14,10 @@ use Rattle.order.proofs.Trace.{clash}
 use Rattle.model.specs.File.{ringSize, modulusOf, orderBits, total, pushBytes, ordersOf}
 use Rattle.model.specs.Marks.{batchFailed, raceFound}
 use Rattle.model.specs.Queue.{Phase, start, reload, moving, Side}
-use Rattle.model.specs.Run.{Result, State}
-use Rattle.model.specs.Report.{one, count, marked, markedOf, raceFrom, partnerOf}
+use Rattle.model.specs.Run.{Result, State, fresh}
+use Rattle.model.specs.Report.{one, count, marked, markedOf, raceFrom, partnerOf, largestShortfall}
 use Rattle.model.proofs.Total.{total-small}
+use Rattle.model.proofs.Shortfall.{lastQueue}
 use Rattle.ring.specs.declared.state.Slot.{Slot}
 use Rattle.ring.specs.declared.state.Stores.{Stores}
 use Rattle.ring.specs.declared.state.Core as rc
@@ -79,6 +80,8 @@ pub record Rep (f : List ℕ) (s : Ring) (st : State) (xs : List Result) : Type 
   pub feed-is : st .queue .feed ≡ drop (coreAt s 0 .passed + coreAt s 0 .moved) (pushBytes f)
   pub out-long : length (st .queue .out) ≡ coreAt s 1 .done + coreAt s 1 .moved
   pub failed-is : (c : Core) → coreAt s (num c) .failed ≡ count (markedOf c batchFailed) xs
+  pub queue-is : lastQueue (fresh f .queue) xs ≡ st .queue
+  pub largest-is : (c : Core) → coreAt s (num c) .largest ≡ largestShortfall f c xs
   pub race-is : s .race ≡ raceFrom 1 xs
   pub partner-is : s .partner ≡ partnerOf xs
   pub entries-are : length (st .trace) ≡ length xs

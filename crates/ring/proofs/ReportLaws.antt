@@ -59,13 +59,13 @@ report-more numbers before i h k w =
     rw (w, add-one i, take-suc numbers i 0, bytes-append, bytes-one)
     (put4-next (bytesOf (take i numbers)) before (4 * i) (getD numbers i 0) (rw (bytes-length, length-take) (omega arith)) k ∙ rw e)
 
-pub report-length : (numbers before : List ℕ) {after : List ℕ} (i : ℕ) → i ≤ 10 → 40 ≤ length before → length numbers ≡ 10
+pub report-length : (numbers before : List ℕ) {after : List ℕ} (i : ℕ) → i ≤ 12 → 48 ≤ length before → length numbers ≡ 12
     → Written numbers before after i → length after ≡ length before
 report-length numbers before i a b n w =
     rw w (simp (length-append, length-drop, bytes-length) (omega (arith, length-take-le i numbers (omega arith))))
 
-pub report-all : (numbers before : List ℕ) {after : List ℕ} (i : ℕ) → i ≤ 10 → 10 ≤ i → length numbers ≡ 10
-    → Written numbers before after i → after ≡ bytesOf numbers ++ drop 40 before
+pub report-all : (numbers before : List ℕ) {after : List ℕ} (i : ℕ) → i ≤ 12 → 12 ≤ i → length numbers ≡ 12
+    → Written numbers before after i → after ≡ bytesOf numbers ++ drop 48 before
 report-all numbers before i a b n w =
-    let ten : i ≡ 10 = omega arith in
-    w ∙ rw (ten, take-all 10 numbers (omega (arith, n)))
+    let all : i ≡ 12 = omega arith in
+    w ∙ rw (all, take-all 12 numbers (omega (arith, n)))

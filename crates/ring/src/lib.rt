@@ -1,7 +1,7 @@
 // The library that a C host calls: one entry, which plays a whole run file. All else is private to this crate.
 //
 // state: the machine's state. room: is there room? stores: the list of an index's stores. moves: what each action does to the state.
-// refusal: why an entry is refused. file: reading the run file, and its code. run: the run over all entries. report: the ten numbers.
+// refusal: why an entry is refused. file: reading the run file, and its code. run: the run over all entries. report: the twelve numbers.
 mod file;
 mod moves;
 mod refusal;

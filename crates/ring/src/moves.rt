@@ -1,13 +1,13 @@
 // A core's moves, one method for each action. Each takes the state and hands the next state back; it takes the arrays that it changes into locals.
 // The small functions below decide one thing each.
-use crate::room::is_short;
+use crate::room::shortfall;
 use crate::state::Core;
 use crate::state::Ring;
 use crate::state::Slot;
 use crate::state::Store;
 use crate::state::Stores;
 ghost use mathlib.Core.Path.{_≡_};
-ghost use Prim.Native.Nat.{_+_, _*_, _<_, _≤_};
+ghost use Prim.Native.Nat.{_+_, _*_, _<_, _≤_, max};
 ghost use Rattle.ring.specs.computed.State.{storeAt, newestOf, placeOf, chosen, coreAt, Bounded, Short};
 ghost use Rattle.ring.specs.computed.Moves.{leadOf, syncsOf, learntOf, slotOf, phaseAfter, foreignMark, accessMark, ifRaces, rivalOf, accessed, ownLoaded, foreignLoaded, movedOn, completed, ownLoad, foreignLoad, dataAccess, indexStore};
 
@@ -20,8 +20,8 @@ impl Ring {
         let own = own_value(who, self.back, self.front);
         let mut cores = self.cores;
         let c = cores[who];
-        let short = is_short(lead(who, self.size), self.modulus, size, own, c.cached);
-        cores[who] = c.own_loaded(own, size, short);
+        let missing = shortfall(lead(who, self.size), self.modulus, size, own, c.cached);
+        cores[who] = c.own_loaded(own, size, 0 < missing);
         self.cores = cores;
         self.mark = 1;
         self
@@ -35,7 +35,7 @@ impl Ring {
         let read = foreign_store(who, age, self.back, self.front);
         let mut cores = self.cores;
         let c = cores[who];
-        let short = is_short(
+        let missing = shortfall(
             lead(who, self.size),
             self.modulus,
             c.size,
@@ -43,9 +43,9 @@ impl Ring {
             read.value,
         );
         let known = learnt(syncs(self.bits, who), c.known, read.entry);
-        cores[who] = c.foreign_loaded(read.value, known, short);
+        cores[who] = c.foreign_loaded(read.value, known, missing);
         self.cores = cores;
-        self.mark = foreign_mark(short);
+        self.mark = foreign_mark(0 < missing);
         self
     }
 
@@ -107,18 +107,19 @@ impl Core {
         self
     }
 
-    // The core with the foreign index loaded: its batch goes on, or has failed.
-    fn foreign_loaded(mut self, value: u16, known: u16, short: bool) -> Self
+    // The core with the foreign index loaded: its batch goes on, or has failed by what is missing.
+    fn foreign_loaded(mut self, value: u16, known: u16, missing: u16) -> Self
         requires { ⌜ Bounded self ⌝ }
-        ensures { λ next. ⌜ next ≡ foreignLoaded self value known short ⌝ }
+        ensures { λ next. ⌜ next ≡ foreignLoaded self value known missing ⌝ }
     {
         self.cached = value;
         self.known = known;
-        if short {
+        if 0 < missing {
             self.phase = 0;
             self.batch = self.batch + 1;
             self.passed = self.passed + self.size;
             self.failed = self.failed + 1;
+            self.largest = larger(self.largest, missing);
             return self;
         }
         self.phase = 2;
@@ -249,11 +250,19 @@ fn learnt(sync: bool, known: u16, entry: u16) -> u16
     ensures { λ r. ⌜ r ≡ learntOf sync known entry ⌝ }
 {
     if sync {
-        if known < entry {
-            return entry;
-        }
+        return larger(known, entry);
     }
     known
+}
+
+// The larger of two numbers.
+fn larger(a: u16, b: u16) -> u16
+    ensures { λ r. ⌜ r ≡ max a b ⌝ }
+{
+    if a < b {
+        return b;
+    }
+    a
 }
 
 // Does this core's foreign load order: is it an acquire load, and the other core's store a release store?

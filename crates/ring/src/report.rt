@@ -1,4 +1,4 @@
-// The report: ten numbers, each of four bytes, little-endian.
+// The report: twelve numbers, each of four bytes, little-endian.
 use crate::state::Ran;
 use crate::state::Ring;
 ghost use mathlib.Core.Path.{_≡_};
@@ -6,12 +6,12 @@ ghost use mathlib.Core.List.{_++_};
 ghost use Prim.Native.Nat.{_+_, _%_, _≤_};
 ghost use lib.ListN.{length, drop};
 ghost use Rattle.model.specs.Report.{bytesOf};
-ghost use Rattle.ring.specs.computed.Report.{put4Of, tenOf, Countable};
+ghost use Rattle.ring.specs.computed.Report.{put4Of, toldOf, Countable};
 
-// The ten numbers of a run.
+// The numbers of a run.
 pub(crate) fn numbers(ran: Ran, entries: u32) -> [u32; Ring::NUMBERS]
     requires { ⌜ Countable ran entries ⌝ }
-    ensures { λ r. ⌜ r ≡ tenOf ran entries ⌝ }
+    ensures { λ r. ⌜ r ≡ toldOf ran entries ⌝ }
 {
     let s = ran.ring;
     let cores = s.cores;
@@ -32,13 +32,15 @@ pub(crate) fn numbers(ran: Ran, entries: u32) -> [u32; Ring::NUMBERS]
         c.failed as u32,
         s.race as u32,
         s.partner as u32,
+        p.largest as u32,
+        c.largest as u32,
     ]
 }
 
 // The numbers, one after the other from the report's first byte.
 pub(crate) fn put_report(report: &mut [u8], numbers: [u32; Ring::NUMBERS])
-    requires { ⌜ (40 ≤ length (now report)) × (length numbers ≡ 10) ⌝ }
-    ensures { λ _. ⌜ now (report .exit) ≡ bytesOf numbers ++ drop 40 (now (report .entry)) ⌝ }
+    requires { ⌜ (48 ≤ length (now report)) × (length numbers ≡ 12) ⌝ }
+    ensures { λ _. ⌜ now (report .exit) ≡ bytesOf numbers ++ drop 48 (now (report .entry)) ⌝ }
 {
     let mut i: usize = 0;
     while i < Ring::NUMBERS {

@@ -24,7 +24,7 @@ pub(crate) struct Stores {
 
 // One core. Where it stands: its phase (0 own load, 1 foreign load, 2 data access, 3 index store), the number of its batch, that batch's
 // size, and the bytes of it that are moved. What it holds: its own index as loaded last, the cached foreign index, and its record of the
-// other core. What it has behind it: the bytes of its past batches and of its completed ones, and its failed batches.
+// other core. What it has behind it: the bytes of its past batches and of its completed ones, its failed batches, and their largest shortfall.
 pub(crate) struct Core {
     pub(crate) phase: u16,
     pub(crate) batch: u16,
@@ -36,6 +36,7 @@ pub(crate) struct Core {
     pub(crate) passed: u16,
     pub(crate) done: u16,
     pub(crate) failed: u16,
+    pub(crate) largest: u16,
 }
 
 // The ring: its size m, its index modulus M, the racing entry and its partner (0 before a race), the order bits, the mark and the byte of the
@@ -75,9 +76,9 @@ impl Ring {
     pub(crate) const FILE: usize = 65536;
 
     // The report has this many numbers, in this many bytes.
-    pub(crate) const NUMBERS: usize = 10;
+    pub(crate) const NUMBERS: usize = 12;
 
-    pub(crate) const REPORT: usize = 40;
+    pub(crate) const REPORT: usize = 48;
 
     // The fresh machine: everything at 0, each index with its initial store.
     pub(crate) fn fresh(size: u32, modulus: u32, bits: u16) -> Self
@@ -100,6 +101,7 @@ impl Ring {
             passed: 0,
             done: 0,
             failed: 0,
+            largest: 0,
         };
         let cores = [core; 2];
         let back = Stores::fresh();

@@ -17,9 +17,9 @@ const MARKS: usize = 32764;
 const OUT: usize = 65025;
 
 // The report: this many numbers of four bytes.
-const NUMBERS: usize = 10;
+const NUMBERS: usize = 12;
 
-const REPORT: usize = 40;
+const REPORT: usize = 48;
 
 // The places of the report's numbers that say how much of the buffers was written.
 const PERFORMED: usize = 0;
@@ -67,7 +67,7 @@ fn print_report(report: &[u8; REPORT]) {
 
 // Number k of the report: four bytes, little-endian.
 fn number(report: &[u8; REPORT], k: usize) -> usize
-    requires { ⌜ k < 10 ⌝ }
+    requires { ⌜ k < 12 ⌝ }
     ensures { λ r. ⌜ (r ≡ number4 (now (report .entry)) (4 * k)) × (r < 4294967296) ⌝ }
 {
     let at = 4 * k;

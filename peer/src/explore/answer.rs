@@ -1,8 +1,9 @@
 //! The library's own answer to a run file, and what is promised of it (docs/PROMISES.md), with nothing of the peer's machine.
 
+use super::failed::{failed, Failed};
 use crate::file::{RunFile, MOST_ORDERS, REPORT_BYTES};
 use crate::library;
-use crate::machine::{performed, refused, report};
+use crate::machine::{performed, refused, report, CONSUMER, PRODUCER};
 use crate::print::numbers;
 
 #[derive(Clone, PartialEq)]
@@ -54,6 +55,57 @@ impl Answer {
         self.marks.contains(&performed::RACE)
     }
 
+    /// The largest shortfall that is reported of a core's batches.
+    fn shortfall(&self, core: usize) -> i64 {
+        i64::from(self.numbers[report::SHORTFALL + core])
+    }
+
+    /// The first promise about shortfalls that the answer breaks: a number is 0 exactly where no such batch failed, and at most
+    /// a failed batch's size; with all orders strong, the most that a failed batch lacked by the store that it read.
+    fn broken_shortfall(&self, file: &RunFile, schedule: &[u8]) -> Option<&'static str> {
+        let failed = failed(file, &self.marks, schedule);
+        let strong = file.orders == MOST_ORDERS;
+        [PRODUCER, CONSUMER].into_iter().find_map(|core| {
+            let of_core = || failed.iter().filter(|batch| batch.core == core);
+            let most = |of: fn(&Failed) -> i64| of_core().map(of).max().unwrap_or(0);
+            let reported = self.shortfall(core);
+            first_broken(&[
+                (
+                    (reported > 0) == (of_core().count() > 0),
+                    "a shortfall is reported where a batch failed",
+                ),
+                (
+                    reported <= most(|batch| batch.size),
+                    "no batch fails by more than its size",
+                ),
+                (
+                    !strong || of_core().all(Failed::lacks_of_its_own),
+                    "a batch that fails lacks bytes by the store that it read",
+                ),
+                (
+                    !strong || reported == most(|batch| batch.lacking),
+                    "the largest shortfall is what a failed batch lacked by the store that it read",
+                ),
+            ])
+        })
+    }
+
+    /// Whether this answer may come after that one, of the schedule without its last entry, by the shortfalls: a number
+    /// changes only where the entry makes such a batch fail, and then to more, from 1 to the batch's size.
+    pub fn follows(&self, before: &Answer, file: &RunFile, schedule: &[u8]) -> bool {
+        let fails = self.marks.last() == Some(&performed::BATCH_FAILED);
+        let last = failed(file, &self.marks, schedule).pop();
+        [PRODUCER, CONSUMER].into_iter().all(|core| {
+            let (now, least) = (self.shortfall(core), before.shortfall(core));
+            match &last {
+                Some(batch) if fails && batch.core == core => {
+                    (least.max(1)..=least.max(batch.size)).contains(&now)
+                }
+                _ => now == least,
+            }
+        })
+    }
+
     /// The first promise that the answer breaks. With all orders strong nothing races; and until something does,
     /// the occupancy is the bytes pushed less those popped and at most m, and out has the pushed bytes in order.
     pub fn broken(&self, file: &RunFile, schedule: &[u8]) -> Option<&'static str> {
@@ -67,7 +119,7 @@ impl Answer {
         let bytes = self.pushed(file, schedule);
         let strong = file.orders == MOST_ORDERS;
         let halted = self.raced() || self.marks.contains(&refused::HALTED);
-        let sentences = [
+        first_broken(&[
             (self.code == 0, "a lawful file is played"),
             (!strong || !halted, "with strong orders nothing races"),
             (
@@ -91,12 +143,15 @@ impl Answer {
                 bytes.starts_with(&self.out),
                 "out is the first bytes of the completed pushes",
             ),
-        ];
-        sentences
-            .into_iter()
-            .find(|(holds, _)| !holds)
-            .map(|(_, sentence)| sentence)
+        ])
+        .or_else(|| self.broken_shortfall(file, schedule))
     }
+}
+
+/// The first sentence that does not hold.
+fn first_broken(sentences: &[(bool, &'static str)]) -> Option<&'static str> {
+    let broken = sentences.iter().find(|(holds, _)| !holds);
+    broken.map(|(_, sentence)| *sentence)
 }
 
 #[cfg(test)]
@@ -117,7 +172,7 @@ mod tests {
             code: 0,
             marks: vec![1, 4, 6, 1, 2, 5, 6],
             out: vec![65],
-            numbers: vec![7, 0, 1, 1, 1, 0, 0, 0, 0, 0],
+            numbers: vec![7, 0, 1, 1, 1, 0, 0, 0, 0, 0, 0, 0],
         };
         let schedule = [[0, 0].repeat(3), [1, 0].repeat(4)].concat();
         (file, schedule, answer)
@@ -159,5 +214,57 @@ mod tests {
         };
         word(broken(more), "completed pushes");
         word(broken(|answer| answer.out.clear()), "completed pops");
+        let short = |answer: &mut Answer| answer.numbers[report::SHORTFALL] = 1;
+        word(broken(short), "where a batch failed");
+    }
+
+    /// R7 of the document, a push of 2 into a ring of 1, with its answer.
+    fn worked_failing() -> (RunFile, Vec<u8>, Answer) {
+        let (mut file, _, mut answer) = worked(MOST_ORDERS);
+        file.sizes = [vec![2], vec![]];
+        file.bytes = vec![65, 66];
+        answer.marks = vec![1, 3];
+        answer.out.clear();
+        answer.numbers = vec![2, 0, 0, 0, 0, 0, 1, 0, 0, 0, 1, 0];
+        (file, vec![0, 0, 0, 0], answer)
+    }
+
+    /// The sentence broken where R7 reports this shortfall, in a ring of so many slots.
+    fn broken_by(shortfall: u32, m: u32) -> Option<&'static str> {
+        let (mut file, schedule, mut answer) = worked_failing();
+        file.m = m;
+        answer.numbers[report::SHORTFALL] = shortfall;
+        answer.broken(&file, &schedule)
+    }
+
+    #[test]
+    fn each_promise_about_shortfalls_can_be_broken() {
+        assert_eq!(broken_by(1, 1), None);
+        let word = |sentence: Option<&str>, word| assert!(sentence.unwrap().contains(word));
+        word(broken_by(0, 1), "where a batch failed");
+        word(broken_by(3, 1), "more than its size");
+        word(broken_by(2, 1), "largest");
+        word(broken_by(1, 2), "lacks bytes");
+    }
+
+    #[test]
+    fn a_shortfall_grows_by_a_failed_batch_and_no_further_than_its_size() {
+        let (file, schedule, after) = worked_failing();
+        let follows = |before, now| {
+            let with = |shortfall| {
+                let mut answer = after.clone();
+                answer.numbers[report::SHORTFALL] = shortfall;
+                answer
+            };
+            with(now).follows(&with(before), &file, &schedule)
+        };
+        let lawful = [(0, 1), (0, 2), (1, 1), (1, 2), (2, 2), (3, 3)];
+        for (before, now) in (0..4).flat_map(|before| (0..5).map(move |now| (before, now))) {
+            let expected = lawful.contains(&(before, now));
+            assert_eq!(follows(before, now), expected, "{before} then {now}");
+        }
+        let mut pops = after.clone();
+        pops.numbers[report::SHORTFALL + 1] = 1;
+        assert!(!pops.follows(&after, &file, &schedule));
     }
 }

@@ -2,7 +2,7 @@
 
 use super::answer::{ask, Answer};
 use crate::file::{Entry, RunFile};
-use crate::machine::{report, Machine};
+use crate::machine::{performed, report, Machine};
 use std::collections::HashMap;
 use std::fmt;
 
@@ -16,6 +16,8 @@ pub struct Looked {
     pub entries: u64,
     /// Performed entries that raced.
     pub races: u64,
+    /// Performed entries that made a batch fail.
+    pub failed: u64,
     /// Schedules of performed entries, to their ends, that the tree stands for.
     pub stands_for: f64,
 }
@@ -26,6 +28,7 @@ impl Looked {
         self.schedules += more.schedules;
         self.entries += more.entries;
         self.races += more.races;
+        self.failed += more.failed;
         self.stands_for += more.stands_for;
     }
 }
@@ -37,11 +40,12 @@ impl fmt::Display for Looked {
             schedules,
             entries,
             races,
+            failed,
             stands_for,
         } = self;
         write!(
             to,
-            "{states} states, {schedules} schedules played with {entries} entries, {races} races; for {stands_for:.1e} whole schedules"
+            "{states} states, {schedules} schedules played with {entries} entries, {races} races, {failed} failed batches; for {stands_for:.1e} whole schedules"
         )
     }
 }
@@ -97,7 +101,8 @@ impl<'f> Tree<'f> {
     pub fn grow(&mut self) -> Result<(), Wrong> {
         let machine = Machine::new(self.file);
         let mut marks = Vec::new();
-        self.looked.stands_for = self.from(&machine, &mut marks)?;
+        let start = self.check(&machine, &marks)?;
+        self.looked.stands_for = self.from(&machine, &mut marks, &start)?;
         self.looked.states = self.seen.len() as u64;
         Ok(())
     }
@@ -160,8 +165,13 @@ impl<'f> Tree<'f> {
         same
     }
 
-    /// How many schedules lead from here to an end. Everything that may be tried next is tried.
-    fn from(&mut self, machine: &Machine, marks: &mut Vec<u8>) -> Result<f64, Wrong> {
+    /// How many schedules lead from here, with this answer, to an end. Everything that may be tried next is tried.
+    fn from(
+        &mut self,
+        machine: &Machine,
+        marks: &mut Vec<u8>,
+        here: &Answer,
+    ) -> Result<f64, Wrong> {
         let state = machine.state();
         if let Some(&schedules) = self.seen.get(&state) {
             return Ok(schedules);
@@ -182,8 +192,13 @@ impl<'f> Tree<'f> {
             self.add(entry);
             marks.push(mark);
             let without = self.check(&after, marks)?;
+            if !without.follows(here, self.file, &self.bytes[self.head..]) {
+                return Err(self
+                    .wrong("not so: a shortfall grows where a batch fails, to its size at most"));
+            }
             self.looked.races += u64::from(without.raced());
-            schedules += self.from(&after, marks)?;
+            self.looked.failed += u64::from(mark == performed::BATCH_FAILED);
+            schedules += self.from(&after, marks, &without)?;
             marks.pop();
             self.cut(1);
             let with = self.refused_first(machine, &refused, Some(entry), marks)?;

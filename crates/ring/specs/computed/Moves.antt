@@ -1,9 +1,9 @@
 -- The moves over the code's structs. Not needed to believe any promise.
 use mathlib.Core.Bool.{Bool, false, cond}
-use Prim.Native.Nat.{ℕ, _+_, _/_, _%_}
+use Prim.Native.Nat.{ℕ, _+_, _/_, _%_, max}
 use lib.Dec.{eqb, ltb}
 use lib.ListN.{getD, set}
-use Rattle.model.specs.Queue.{shortOf}
+use Rattle.model.specs.Queue.{shortfallOf}
 use Rattle.ring.specs.declared.state.Slot.{Slot}
 use Rattle.ring.specs.declared.state.Core.{Core}
 use Rattle.ring.specs.declared.state.Ring.{Ring}
@@ -17,7 +17,7 @@ syncsOf bits who =
     cond (eqb who 0) (cond (eqb (bits % 2) 1) (eqb (bits / 8 % 2) 1) false) (cond (eqb (bits / 4 % 2) 1) (eqb (bits / 2 % 2) 1) false)
 
 unfoldable pub learntOf : Bool → (known entry : ℕ) → ℕ
-learntOf sync known entry = cond sync (cond (ltb known entry) entry known) known
+learntOf sync known entry = cond sync (max known entry) known
 
 abbrev pub slotOf : (own moved size : ℕ) → ℕ
 slotOf own moved size = (own + moved) % size
@@ -54,35 +54,42 @@ ownLoaded c own size short = record {
   passed = c .passed;
   done = c .done;
   failed = c .failed;
+  largest = c .largest;
 }
 
-unfoldable pub foreignLoaded : Core → (value known : ℕ) → Bool → Core
-foreignLoaded c value known short =
-    cond short
-    (record {
-      phase = 0;
-      batch = c .batch + 1;
-      size = c .size;
-      moved = c .moved;
-      own = c .own;
-      cached = value;
-      known = known;
-      passed = c .passed + c .size;
-      done = c .done;
-      failed = c .failed + 1;
-    })
-    (record {
-      phase = 2;
-      batch = c .batch;
-      size = c .size;
-      moved = c .moved;
-      own = c .own;
-      cached = value;
-      known = known;
-      passed = c .passed;
-      done = c .done;
-      failed = c .failed;
-    })
+-- The core after a foreign load whose batch failed, and after one whose batch goes on.
+unfoldable pub batchLost : Core → (value known missing : ℕ) → Core
+batchLost c value known missing = record {
+  phase = 0;
+  batch = c .batch + 1;
+  size = c .size;
+  moved = c .moved;
+  own = c .own;
+  cached = value;
+  known = known;
+  passed = c .passed + c .size;
+  done = c .done;
+  failed = c .failed + 1;
+  largest = max (c .largest) missing;
+}
+
+unfoldable pub batchKept : Core → (value known : ℕ) → Core
+batchKept c value known = record {
+  phase = 2;
+  batch = c .batch;
+  size = c .size;
+  moved = c .moved;
+  own = c .own;
+  cached = value;
+  known = known;
+  passed = c .passed;
+  done = c .done;
+  failed = c .failed;
+  largest = c .largest;
+}
+
+unfoldable pub foreignLoaded : Core → (value known missing : ℕ) → Core
+foreignLoaded c value known missing = cond (ltb 0 missing) (batchLost c value known missing) (batchKept c value known)
 
 unfoldable pub movedOn : Core → Bool → Core
 movedOn c races =
@@ -97,6 +104,7 @@ movedOn c races =
       passed = c .passed;
       done = c .done;
       failed = c .failed;
+      largest = c .largest;
     })
 
 unfoldable pub completed : Core → Core
@@ -111,6 +119,7 @@ completed c = record {
   passed = c .passed + c .size;
   done = c .done + c .size;
   failed = c .failed;
+  largest = c .largest;
 }
 
 -- The ring with one core and the mark replaced.
@@ -133,7 +142,7 @@ unfoldable pub ownLoad : Ring → (who size : ℕ) → Ring
 ownLoad s who size =
     let c = coreAt s who in
     let own = newestOf (chosen who (s .back) (s .front)) in
-    withCore s who (ownLoaded c own size (shortOf (leadOf who (s .size)) (s .modulus) size own (c .cached))) 1
+    withCore s who (ownLoaded c own size (ltb 0 (shortfallOf (leadOf who (s .size)) (s .modulus) size own (c .cached)))) 1
 
 unfoldable pub foreignLoad : Ring → (who age : ℕ) → Ring
 foreignLoad s who age =
@@ -141,8 +150,8 @@ foreignLoad s who age =
     let theirs = chosen who (s .front) (s .back) in
     let value = getD (theirs .values) (placeOf theirs age) 0 in
     let entry = getD (theirs .entries) (placeOf theirs age) 0 in
-    let short = shortOf (leadOf who (s .size)) (s .modulus) (c .size) (c .own) value in
-    withCore s who (foreignLoaded c value (learntOf (syncsOf (s .bits) who) (c .known) entry) short) (foreignMark short)
+    let missing = shortfallOf (leadOf who (s .size)) (s .modulus) (c .size) (c .own) value in
+    withCore s who (foreignLoaded c value (learntOf (syncsOf (s .bits) who) (c .known) entry) missing) (foreignMark (ltb 0 missing))
 
 unfoldable pub dataAccess : Ring → (who byte entry : ℕ) → Ring
 dataAccess s who byte entry =

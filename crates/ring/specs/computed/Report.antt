@@ -1,4 +1,4 @@
--- The ten numbers over the code's structs. Not needed to believe any promise.
+-- The numbers over the code's structs. Not needed to believe any promise.
 use mathlib.Core.List.{List, [], _∷_}
 use Prim.Native.Nat.{ℕ, _+_, _-_, _/_, _%_, _<_, _≤_}
 use lib.ListN.{set}
@@ -8,8 +8,8 @@ use Rattle.ring.specs.computed.State.{newestOf, coreAt, Short}
 abbrev pub put4Of : List ℕ → (at x : ℕ) → List ℕ
 put4Of l at x = set (set (set (set l at (x % 256)) (at + 1) (x / 256 % 256)) (at + 2) (x / 65536 % 256)) (at + 3) (x / 16777216 % 256)
 
-unfoldable pub tenOf : Ran → (entries : ℕ) → List ℕ
-tenOf r entries =
+unfoldable pub toldOf : Ran → (entries : ℕ) → List ℕ
+toldOf r entries =
     let s = r .ring in
     r .performed
     ∷ (entries - r .performed)
@@ -21,6 +21,8 @@ tenOf r entries =
     ∷ coreAt s 1 .failed
     ∷ s .race
     ∷ s .partner
+    ∷ coreAt s 0 .largest
+    ∷ coreAt s 1 .largest
     ∷ []
 
 -- The numbers can be worked out in their types.

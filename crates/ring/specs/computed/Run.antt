@@ -12,7 +12,7 @@ use Rattle.model.specs.Report.{numbersOf}
 use Rattle.model.specs.Outcome.{marksOf}
 use Rattle.model.specs.computed.Machine.{results, ends}
 use Rattle.ring.specs.declared.state.Ran.{Ran}
-use Rattle.ring.specs.computed.Report.{tenOf, Countable}
+use Rattle.ring.specs.computed.Report.{toldOf, Countable}
 
 unfoldable pub whoOf : (core : ℕ) → ℕ
 whoOf core = cond (eqb core 0) 0 1
@@ -42,5 +42,5 @@ pub record Ready (f : List ℕ) (at n marks out : ℕ) : Type 0 where
 pub record Finished (f : List ℕ) (n : ℕ) (marks out : List ℕ) (r : Ran) (marks′ out′ : List ℕ) : Type 0 where
   pub marks-are : marks′ ≡ marksOf (resultsOf f) ++ drop n marks
   pub out-is : out′ ≡ endOf f .queue .out ++ drop (length (endOf f .queue .out)) out
-  pub numbers-are : tenOf r n ≡ numbersOf f (resultsOf f) (endOf f)
+  pub numbers-are : toldOf r n ≡ numbersOf f (resultsOf f) (endOf f)
   pub countable : Countable r n

@@ -15,7 +15,7 @@ unfoldable pub freshStores : Stores
 freshStores = record { values = replicate 256 0; entries = replicate 256 0; count = 1 }
 
 abbrev pub freshCore : Core
-freshCore = record { phase = 0; batch = 0; size = 0; moved = 0; own = 0; cached = 0; known = 0; passed = 0; done = 0; failed = 0 }
+freshCore = record { phase = 0; batch = 0; size = 0; moved = 0; own = 0; cached = 0; known = 0; passed = 0; done = 0; failed = 0; largest = 0 }
 
 abbrev pub freshSlot : Slot
 freshSlot = record { byte = 0; stored = 0; loaded = 0 }

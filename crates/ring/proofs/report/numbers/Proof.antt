@@ -1,6 +1,6 @@
 -- The function `numbers` of src/report.rt meets its contract.
 use native.Mathlib.Omega.{arith}
-use Rattle.ring.specs.computed.Report.{tenOf}
+use Rattle.ring.specs.computed.Report.{toldOf}
 use borrow.Author.Needs.{needs}
 use Rattle.ring.proofs.report.numbers.Statement.{statement}
 use Rattle.ring.proofs.report.numbers.Tie as tie
@@ -56,12 +56,18 @@ cast-t22 c = search needs
 cast-t23 : tie.Need-cast-t23
 cast-t23 c = search needs
 
+cast-t24 : tie.Need-cast-t24
+cast-t24 c = omega (arith, c .struct-known11 .given)
+
+cast-t25 : tie.Need-cast-t25
+cast-t25 c = omega (arith, c .struct-known12 .given)
+
 returns : tie.Need-returns
-unfolding tenOf
+unfolding toldOf
 returns c =
     rw (
-      c .before .before .before .before .before .before .before .before .before .before .before .newest .ensures,
-      c .before .before .before .before .before .before .before .before .before .before .newest2 .ensures,
+      c .before .before .before .before .before .before .before .before .before .before .before .before .before .newest .ensures,
+      c .before .before .before .before .before .before .before .before .before .before .before .before .newest2 .ensures,
     )
 
 pub numbers-spec : {M : Type 1} → statement M
@@ -85,4 +91,6 @@ numbers-spec =
     cast-t21
     cast-t22
     cast-t23
+    cast-t24
+    cast-t25
     returns)

@@ -16,8 +16,8 @@ array-copy-out-c c = search needs
 lead-requires : tie.Need-lead-requires
 lead-requires c κs = search needs
 
-is-short-requires : tie.Need-is-short-requires
-is-short-requires c κs = search needs
+shortfall-requires : tie.Need-shortfall-requires
+shortfall-requires c κs = search needs
 
 syncs-requires : tie.Need-syncs-requires
 syncs-requires c κs = search needs
@@ -45,7 +45,7 @@ returns c =
       c .before .foreign-loaded .ensures,
       c .before .before .learnt .ensures,
       c .before .before .before .syncs .ensures,
-      c .before .before .before .before .is-short .ensures,
+      c .before .before .before .before .shortfall .ensures,
       c .before .before .before .before .before .lead .ensures,
       c .before .before .before .before .before .before .before .before .foreign-store .ensures,
     )
@@ -58,7 +58,7 @@ foreign-load-spec =
     mul-c
     array-copy-out-c
     lead-requires
-    is-short-requires
+    shortfall-requires
     syncs-requires
     learnt-requires
     foreign-loaded-requires
