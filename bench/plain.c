@@ -15,11 +15,12 @@ struct layout {
   size_t entries;
 };
 
-/* A core, with the list of its own index's stores: their values and their entries, oldest first; the initial store is 0 at entry 0. */
+/* A core, with the list of its own index's stores: their values and their entries, oldest first; the initial store is 0 at entry 0. `read` is the
+ * latest place of the other's list that it has read. */
 struct core {
   const uint8_t *size_at, *sizes_end;
   enum phase phase;
-  uint32_t lead, size, left, own, slot, cached, known, done, failed, shortfall, stores;
+  uint32_t lead, size, left, own, slot, cached, known, read, done, failed, shortfall, stores;
   int syncs;
   uint16_t value[STORES], entry[STORES];
 };
@@ -69,7 +70,7 @@ static void fresh_core(struct core *c, const uint8_t *sizes, size_t batches, uin
   c->size_at = sizes;
   c->sizes_end = sizes + batches;
   c->phase = OWN_LOAD;
-  c->size = c->left = c->own = c->slot = c->cached = c->known = c->done = c->failed = c->shortfall = 0;
+  c->size = c->left = c->own = c->slot = c->cached = c->known = c->read = c->done = c->failed = c->shortfall = 0;
   c->lead = lead;
   c->syncs = syncs;
   c->stores = 1;
@@ -106,15 +107,17 @@ static inline uint8_t own_load(struct machine *s, struct core *c) {
   return FERRULIQUE_OWN_LOADED;
 }
 
-/* A store is hidden where the next one is known: entries rise along the list. */
+/* A store is hidden where this core has read a later one. Axiom 2 asks no more: a later store happens before the load only where this core has
+ * acquired, and so read, that one or one after it. */
 static inline uint8_t foreign_load(struct machine *s, uint32_t who, uint32_t age) {
   struct core *c = &s->core[who];
   const struct core *other = &s->core[1 - who];
   if (age >= other->stores) return FERRULIQUE_PAST_INITIAL;
   uint32_t place = other->stores - 1 - age;
-  if (age != 0 && other->entry[place + 1] <= c->known) return FERRULIQUE_STORE_HIDDEN;
+  if (place < c->read) return FERRULIQUE_STORE_HIDDEN;
+  c->read = place;
   c->cached = other->value[place];
-  if (c->syncs && other->entry[place] > c->known) c->known = other->entry[place];
+  if (c->syncs) c->known = other->entry[place];
   uint32_t missing = shortfall(s, c);
   if (missing == 0) {
     c->phase = DATA_ACCESS;

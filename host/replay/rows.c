@@ -105,8 +105,13 @@ static void note_past_initial(FILE *to, const struct step *s) {
 
 static void note_hidden(FILE *to, const struct step *s) {
   char cell[CELL];
-  fprintf(to, "age %u, %s (value %u), is hidden by the later store of entry %u, ", s->age, store_words(s->from, cell), s->value, s->hider);
-  fprintf(to, "which happens before this load (acquired by entry %u)", s->through);
+  const struct met *by = &s->hidden.by;
+  fprintf(to, "age %u, %s (value %u), is hidden", s->age, store_words(s->from, cell), s->value);
+  if (s->hidden.rule == AXIOM_2) {
+    fprintf(to, " by the later store of entry %u, which happens before this load (acquired by entry %u)", by->store, by->load);
+  } else {
+    fprintf(to, ": the %s has already read the later store of entry %u, at entry %u", core_words((enum core)s->core), by->store, by->load);
+  }
 }
 
 /* Why an entry was refused. */

@@ -1,7 +1,6 @@
 /* The walk: what each entry did, worked out from the file and the marks. A mark is never decided here, only explained. */
 #include "walk.h"
 
-#include "hidden.h"
 #include "words.h"
 
 /* One core as it stands. own and cached are the indexes as its own load and its latest foreign load gave them. */
@@ -10,7 +9,7 @@ struct mover {
   enum deed next;
   uint32_t own, cached, moved;
   struct stores stores; /* of its own index */
-  struct acquired acquired;
+  struct known known;
 };
 
 struct slot {
@@ -62,8 +61,8 @@ static int own_load(struct machine *m, struct step *s) {
   return s->mark == FERRULIQUE_OWN_LOADED;
 }
 
-/* Where the store that an age names stands in the list of the other's index. */
-static size_t place_of(const struct stores *stores, uint8_t age) { return stores->count - 1 - age; }
+/* The store that an age below their count names. */
+static const struct store *store_of(const struct stores *stores, uint8_t age) { return &stores->list[stores->count - 1 - age]; }
 
 /* A failed batch: the room that its foreign load left it must be below its size, and by how much is its shortfall. */
 static int failed_batch(struct machine *m, struct step *s) {
@@ -79,13 +78,14 @@ static int foreign_load(struct machine *m, struct step *s, uint32_t entry) {
   struct mover *c = &m->cores[s->core];
   const struct stores *stores = &m->cores[other_core(s->core)].stores;
   if (s->age >= stores->count) return 0;
-  const struct store *read = &stores->list[place_of(stores, s->age)];
+  const struct store *read = store_of(stores, s->age);
+  if (hiding(read, &c->known).rule != NO_RULE) return 0;
   s->stores = (uint32_t)stores->count;
   s->from = read->entry;
   c->cached = s->cached = s->value = read->value;
   s->room = room(m, s->core);
-  acquire(&c->acquired, entry, read, is_strong(order_of_load(s->core), m->parts->orders),
-          is_strong(order_of_store(other_core(s->core)), m->parts->orders));
+  note_read(&c->known, entry, read, is_strong(order_of_load(s->core), m->parts->orders),
+            is_strong(order_of_store(other_core(s->core)), m->parts->orders));
   if (s->mark == FERRULIQUE_BATCH_FAILED) return failed_batch(m, s);
   c->next = DATA_ACCESS;
   return s->mark == FERRULIQUE_FOREIGN_LOADED && s->room >= s->size;
@@ -138,17 +138,13 @@ static int performed(struct machine *m, struct step *s, uint32_t entry) {
 /* A refused foreign load: the age reaches too far back, or names a store that a later one hides. */
 static int refused_load(const struct machine *m, struct step *s) {
   const struct stores *stores = &m->cores[other_core(s->core)].stores;
-  const struct acquired *acquired = &m->cores[s->core].acquired;
   s->stores = (uint32_t)stores->count;
   if (s->age >= stores->count) return s->mark == FERRULIQUE_PAST_INITIAL;
-  size_t place = place_of(stores, s->age);
-  const struct store *by = hider(stores, place, acquired);
-  if (by == NULL) return 0;
-  s->from = stores->list[place].entry;
-  s->value = stores->list[place].value;
-  s->hider = by->entry;
-  s->through = acquired->load;
-  return s->mark == FERRULIQUE_STORE_HIDDEN;
+  const struct store *named = store_of(stores, s->age);
+  s->from = named->entry;
+  s->value = named->value;
+  s->hidden = hiding(named, &m->cores[s->core].known);
+  return s->hidden.rule != NO_RULE && s->mark == FERRULIQUE_STORE_HIDDEN;
 }
 
 /* A refused entry: does its reason hold? The reasons are tried in their order. */

@@ -3,6 +3,7 @@
 #define REPLAY_WALK_H
 
 #include "ask.h"
+#include "hidden.h"
 #include "parts.h"
 
 /* What a core does next is decided by where it stands in its batch. */
@@ -20,8 +21,7 @@ struct step {
   unsigned room;        /* and the room that this leaves */
   unsigned shortfall;   /* mark 3: the bytes by which the room is below the batch */
   unsigned stores;      /* foreign loads: how many stores the index had */
-  unsigned hider;       /* mark 134: the entry whose store hides the one that the age names, */
-  unsigned through;     /* and the load by which it happens before this one */
+  struct hiding hidden; /* mark 134: what hides the store that the age names */
   unsigned halted;      /* mark 130: the entry that raced */
   unsigned partner;     /* mark 7: the entry that it races with */
   unsigned occupancy;   /* after the entry */

@@ -6,11 +6,38 @@ mod known;
 /// What an action does to memory. A load of the initial store reads from nothing recorded.
 #[derive(Clone, Copy, Debug, PartialEq)]
 pub enum Deed {
-    OwnLoad,
+    OwnLoad { from: Option<usize> },
     ForeignLoad { acquire: bool, from: Option<usize> },
     IndexStore { release: bool },
     DataStore { slot: u32 },
     DataLoad { slot: u32 },
+}
+
+impl Deed {
+    /// The recorded store that a load of an index reads from.
+    fn reads(self) -> Option<usize> {
+        match self {
+            Deed::OwnLoad { from } | Deed::ForeignLoad { from, .. } => from,
+            _ => None,
+        }
+    }
+}
+
+/// Which of the two rules hide a store from a load.
+#[derive(Clone, Copy, Debug, PartialEq)]
+pub struct Hidden {
+    pub axiom_2: bool,
+    pub coherence: bool,
+}
+
+impl Hidden {
+    pub fn by_coherence_alone(&self) -> bool {
+        self.coherence && !self.axiom_2
+    }
+
+    pub fn by_axiom_2_alone(&self) -> bool {
+        self.axiom_2 && !self.coherence
+    }
 }
 
 #[derive(Clone, Copy, Debug)]
@@ -102,13 +129,29 @@ impl Actions {
         Before { oldest, seen }
     }
 
-    /// Axiom 2: a load may not read a store if one of the later stores of that index happens before the load.
+    /// The rules that hide a store from a load, by the later stores of that index.
     /// The initial stores are never later than another, so they need no place here.
-    pub fn hides(&self, later: &[usize], load: Action) -> bool {
+    pub fn hides(&self, later: &[usize], load: Action) -> Hidden {
+        Hidden {
+            axiom_2: self.has_happened(later, load),
+            coherence: self.was_read(later, load),
+        }
+    }
+
+    /// Axiom 2: a load may not read a store if one of the later stores of that index happens before the load.
+    fn has_happened(&self, later: &[usize], load: Action) -> bool {
         later.iter().min().map_or(false, |&oldest| {
             let before = self.before(load, oldest);
             later.iter().any(|&store| before.has(store))
         })
+    }
+
+    /// Coherence: a load may not read a store if an earlier load of that index by the same core, own or foreign, read one of
+    /// the later stores. A load that reads one of them is a load of that index.
+    fn was_read(&self, later: &[usize], load: Action) -> bool {
+        let of_core = self.list.iter().filter(|earlier| earlier.core == load.core);
+        let mut read = of_core.filter_map(|earlier| earlier.deed.reads());
+        !later.is_empty() && read.any(|store| later.contains(&store))
     }
 
     /// The latest earlier access that a data access races with: same slot, other core,
@@ -173,14 +216,43 @@ mod tests {
         assert!(load_races(false, false));
     }
 
+    fn hidden(axiom_2: bool, coherence: bool) -> Hidden {
+        Hidden { axiom_2, coherence }
+    }
+
     #[test]
-    fn a_relaxed_load_hides_nothing() {
+    fn a_relaxed_load_hides_by_coherence_alone() {
         let mut actions = Actions::new(1);
         let store = actions.record(action(0, Deed::IndexStore { release: true }));
         let load = |acquire, from| action(1, Deed::ForeignLoad { acquire, from });
+        actions.record(load(false, None));
+        assert_eq!(
+            actions.hides(&[store], load(false, None)),
+            hidden(false, false)
+        );
         actions.record(load(false, Some(store)));
-        assert!(!actions.hides(&[store], load(false, None)));
+        assert_eq!(
+            actions.hides(&[store], load(false, None)),
+            hidden(false, true)
+        );
+        assert_eq!(
+            actions.hides(&[], load(false, Some(store))),
+            hidden(false, false)
+        );
         actions.record(load(true, Some(store)));
-        assert!(actions.hides(&[store], load(false, None)));
+        assert_eq!(
+            actions.hides(&[store], load(false, None)),
+            hidden(true, true)
+        );
+    }
+
+    #[test]
+    fn coherence_is_for_each_core_and_for_own_loads_too() {
+        let mut actions = Actions::new(1);
+        let store = actions.record(action(0, Deed::IndexStore { release: false }));
+        actions.record(action(0, Deed::OwnLoad { from: Some(store) }));
+        let older = |core| actions.hides(&[store], action(core, Deed::OwnLoad { from: None }));
+        assert!(older(0).coherence);
+        assert!(!older(1).coherence);
     }
 }

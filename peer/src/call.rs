@@ -116,6 +116,47 @@ mod tests {
     }
 
     #[test]
+    fn a_core_never_goes_back_to_an_older_store() {
+        type Run<'a> = (u8, &'a [u8], &'a [u8], &'a str, &'a [u8]);
+        let runs: [Run; 4] = [
+            // A relaxed load hides older stores from later ones, of the consumer and of the producer.
+            (
+                11,
+                &[1],
+                &[2, 2],
+                "P0x3 C0x3 C1 C0",
+                &[1, 4, 6, 1, 3, 1, 134, 3],
+            ),
+            (
+                14,
+                &[2, 2],
+                &[0],
+                "C0x2 P0x3 P1 P0",
+                &[1, 6, 1, 3, 1, 134, 3],
+            ),
+            // The same store may be read again.
+            (
+                11,
+                &[1],
+                &[2, 2],
+                "P0x3 C0 C1 C0 C1",
+                &[1, 4, 6, 1, 3, 1, 3],
+            ),
+            // What one core has read hides nothing from the other.
+            (
+                0,
+                &[0, 2],
+                &[0, 2],
+                "P0x2 C0x4 P0 P1",
+                &[1, 6, 1, 6, 1, 3, 1, 3],
+            ),
+        ];
+        for (orders, pushes, pops, words, marks) in runs {
+            assert_eq!(play(orders, pushes, pops, words).0, marks, "{words}");
+        }
+    }
+
+    #[test]
     fn the_largest_shortfall_is_reported_and_not_the_latest() {
         // A full ring: pushes of 3 and 1 lack 3 bytes and 1. An empty one then: pops of 4 and 2 lack all their bytes.
         let (marks, numbers) = play(15, &[1, 3, 1], &[1, 4, 2], "P0x7 C0x4 C0x4");

@@ -2,7 +2,7 @@
 
 use crate::desk::{differs, Desk};
 use crate::file::read;
-use crate::floors::missed;
+use crate::floors::{impossible, missed};
 use crate::found;
 use crate::lend::{lendings, needs, Lending};
 use crate::make::make;
@@ -183,6 +183,10 @@ impl Drive {
             println!("floor missed: {sentence}");
         }
         println!("{} of {floors} floors met", floors - missed.len());
-        missed.is_empty()
+        let impossible = impossible(tally);
+        impossible
+            .iter()
+            .for_each(|sentence| println!("{sentence}"));
+        missed.is_empty() && impossible.is_empty()
     }
 }

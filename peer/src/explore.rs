@@ -2,6 +2,7 @@
 
 mod answer;
 mod failed;
+mod reads;
 mod rings;
 mod tree;
 
@@ -96,15 +97,19 @@ fn work(tasks: &[(usize, RunFile)], common: &Common, job: &Job) -> u8 {
     }
 }
 
-/// A sentence for each ring and weaker setting of which no run raced. That strong ones never race is asked of every answer.
-fn never_raced(looked: &[[Looked; 16]; RINGS.len()]) -> Vec<String> {
+/// A sentence for each ring and weaker setting of which no run raced, or none had a store hidden by coherence alone. That strong
+/// ones have neither is asked of every answer.
+fn never_seen(looked: &[[Looked; 16]; RINGS.len()]) -> Vec<String> {
     let mut missing = Vec::new();
     for ((m, modulus), settings) in RINGS.iter().zip(looked) {
-        for (orders, looked) in settings.iter().enumerate() {
-            if orders < usize::from(MOST_ORDERS) && looked.races == 0 {
-                missing.push(format!(
-                    "m={m} M={modulus}, order bits {orders}: no run races"
-                ));
+        for (orders, looked) in settings.iter().enumerate().take(usize::from(MOST_ORDERS)) {
+            for (seen, what) in [
+                (looked.races, "no run races"),
+                (looked.coherence, "no store is hidden by coherence alone"),
+            ] {
+                if seen == 0 {
+                    missing.push(format!("m={m} M={modulus}, order bits {orders}: {what}"));
+                }
             }
         }
     }
@@ -134,7 +139,7 @@ impl Explore {
         save(&self.save, "explored.run", file)
     }
 
-    /// True where every answer was as promised and as the peer has it, and each weaker setting raced.
+    /// True where every answer was as promised and as the peer has it, and each weaker setting showed what it lacks.
     pub fn all(&self) -> io::Result<bool> {
         let tasks = tasks(self.more);
         let common = Shared::<Common>::new()?;
@@ -170,7 +175,7 @@ impl Explore {
             }
         }
         print(&looked);
-        let missing = never_raced(&looked);
+        let missing = never_seen(&looked);
         missing.iter().for_each(|sentence| println!("{sentence}"));
         Ok(missing.is_empty())
     }
@@ -181,18 +186,21 @@ mod tests {
     use super::*;
 
     #[test]
-    fn a_weaker_setting_that_never_raced_is_named() {
-        let raced = Looked {
+    fn a_weaker_setting_that_showed_nothing_is_named() {
+        let seen = Looked {
             races: 1,
+            coherence: 1,
             ..Looked::default()
         };
-        let mut looked = [[raced; 16]; RINGS.len()];
+        let mut looked = [[seen; 16]; RINGS.len()];
         looked[2][15] = Looked::default();
-        assert!(never_raced(&looked).is_empty());
-        looked[2][14] = Looked::default();
-        assert_eq!(
-            never_raced(&looked),
-            ["m=2 M=4, order bits 14: no run races"]
-        );
+        assert!(never_seen(&looked).is_empty());
+        looked[2][14].races = 0;
+        looked[3][0].coherence = 0;
+        let expected = [
+            "m=2 M=4, order bits 14: no run races",
+            "m=2 M=6, order bits 0: no store is hidden by coherence alone",
+        ];
+        assert_eq!(never_seen(&looked), expected);
     }
 }

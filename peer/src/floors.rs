@@ -1,5 +1,6 @@
 //! What a comparison of some size must have seen to count: floors under the tally, by files unless it says calls.
 
+use crate::file::MOST_ORDERS;
 use crate::tally::{all_marks, Tally, LENGTHS, REPORTS, WRAPS};
 
 struct Floor {
@@ -10,6 +11,8 @@ struct Floor {
 
 /// For each code, mark, setting, greatest value, and every choice of short buffers.
 const EACH: u64 = 1_000;
+/// For what is counted by weaker settings.
+const EACH_WEAKER: u64 = 100;
 /// For ten times round, which takes many batches.
 const OFTEN_ROUND: u64 = 500;
 /// For each length about the longest file, which takes long to play.
@@ -42,6 +45,24 @@ fn floors(tally: &Tally) -> Vec<Floor> {
             oldest,
             EACH,
         );
+        let [both, coherence, _] = tally.hidden_by[core];
+        for (files, what) in [
+            (both, "hidden from it by both rules"),
+            (coherence, "hidden from it by coherence alone"),
+            (tally.read_again[core], "that is older read again"),
+            (tally.read_behind[core], "behind the other core's"),
+        ] {
+            each(format!("for the {name}, a store {what}"), files, EACH);
+        }
+    }
+    for (bits, &files) in tally
+        .coherence
+        .iter()
+        .enumerate()
+        .take(usize::from(MOST_ORDERS))
+    {
+        let what = format!("order bits {bits} with a store hidden by coherence alone");
+        each(what, files, EACH_WEAKER);
     }
     for (index, wraps) in ["back", "front"].iter().zip(tally.wraps) {
         for (files, times) in wraps.into_iter().zip(WRAPS) {
@@ -94,6 +115,25 @@ fn floors(tally: &Tally) -> Vec<Floor> {
     floors
 }
 
+/// A sentence for each thing that was seen and cannot be. A store of the other core happens before a load only by way of an
+/// earlier load, of that store or of a later one: so what axiom 2 hides, coherence hides too. With all orders strong every such
+/// load is an acquire load of a release store, so there what coherence hides, axiom 2 hides too.
+pub fn impossible(tally: &Tally) -> Vec<String> {
+    let [producer, consumer] = tally.hidden_by.map(|[_, _, axiom_2]| axiom_2);
+    let strong = tally.coherence[usize::from(MOST_ORDERS)];
+    [
+        ("a store hidden by axiom 2 alone", producer + consumer),
+        (
+            "strong orders with a store hidden by coherence alone",
+            strong,
+        ),
+    ]
+    .into_iter()
+    .filter(|(_, files)| *files > 0)
+    .map(|(what, files)| format!("{what} was seen in {files} files, and cannot be"))
+    .collect()
+}
+
 /// How many floors there are, and a sentence for each that was missed.
 pub fn missed(tally: &Tally) -> (usize, Vec<String>) {
     let floors = floors(tally);
@@ -117,6 +157,22 @@ mod tests {
         assert_eq!(floors, missed.len());
         assert!(missed.contains(&"mark 133 was seen 0 times, fewer than 1000".to_string()));
         assert!(missed.contains(&"code 11 was seen 0 times, fewer than 1000".to_string()));
+    }
+
+    #[test]
+    fn what_cannot_be_is_told() {
+        let mut tally = Tally::new();
+        tally.hidden_by = [[5, 5, 0]; 2];
+        tally.coherence = [1; 16];
+        tally.coherence[15] = 0;
+        assert!(impossible(&tally).is_empty());
+        tally.hidden_by[1][2] = 1;
+        tally.coherence[15] = 2;
+        let expected = [
+            "a store hidden by axiom 2 alone was seen in 1 files, and cannot be",
+            "strong orders with a store hidden by coherence alone was seen in 2 files, and cannot be",
+        ];
+        assert_eq!(impossible(&tally), expected);
     }
 
     #[test]

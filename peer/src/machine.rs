@@ -1,6 +1,6 @@
 //! What each schedule entry does: its mark, the bytes read, the report.
 
-use crate::actions::{Action, Actions, Deed};
+use crate::actions::{Action, Actions, Deed, Hidden};
 use crate::file::{Entry, RunFile, REPORT_BYTES, REPORT_NUMBERS};
 
 #[cfg(feature = "library")]
@@ -70,6 +70,14 @@ pub struct Shortfall {
 pub struct Inside {
     /// Those of the failed pushes and of the failed pops, oldest first.
     pub shortfalls: [Vec<Shortfall>; 2],
+    /// What hid a store from the producer and from the consumer, each time that one was refused for it.
+    pub hidden: [Vec<Hidden>; 2],
+}
+
+/// Why a foreign load may not read the store of its age.
+enum Unreadable {
+    PastInitial,
+    Hidden(Hidden),
 }
 
 /// The largest of some shortfalls, or 0 where there are none.
@@ -91,6 +99,8 @@ struct Core {
     completed_bytes: u32,
     /// Of its failed batches.
     shortfalls: Vec<Shortfall>,
+    /// Of its refused loads.
+    hidden: Vec<Hidden>,
 }
 
 /// One store of an index; the initial one is no recorded action.
@@ -103,6 +113,8 @@ struct Stored {
 #[derive(Clone)]
 pub struct Machine<'f> {
     file: &'f RunFile,
+    /// Whether coherence hides stores, beside axiom 2.
+    coherent: bool,
     cores: [Core; 2],
     /// The stores of back and of front, oldest first: each under the core that makes them.
     stores: [Vec<Stored>; 2],
@@ -125,6 +137,7 @@ impl<'f> Machine<'f> {
             cached: 0,
             completed_bytes: 0,
             shortfalls: Vec::new(),
+            hidden: Vec::new(),
         };
         let initial = vec![Stored {
             value: 0,
@@ -132,6 +145,7 @@ impl<'f> Machine<'f> {
         }];
         Machine {
             file,
+            coherent: true,
             cores: [core.clone(), core],
             stores: [initial.clone(), initial],
             slots: vec![0; file.m as usize],
@@ -140,6 +154,15 @@ impl<'f> Machine<'f> {
             performed: 0,
             out: Vec::new(),
             race: None,
+        }
+    }
+
+    /// The machine as it would be if axiom 2 alone hid stores.
+    #[cfg(feature = "library")]
+    pub fn without_coherence(file: &'f RunFile) -> Self {
+        Machine {
+            coherent: false,
+            ..Machine::new(file)
         }
     }
 
@@ -168,8 +191,10 @@ impl<'f> Machine<'f> {
 
     /// What the run went through, once it is over.
     pub fn inside(self) -> Inside {
+        let [producer, consumer] = self.cores;
         Inside {
-            shortfalls: self.cores.map(|core| core.shortfalls),
+            shortfalls: [producer.shortfalls, consumer.shortfalls],
+            hidden: [producer.hidden, consumer.hidden],
         }
     }
 
@@ -258,9 +283,9 @@ impl<'f> Machine<'f> {
     }
 
     fn own_load(&mut self, core: usize, size: u32) -> u8 {
-        self.record(core, Deed::OwnLoad);
-        let newest = self.stores[core].len() - 1;
-        self.cores[core].own = self.stores[core][newest].value;
+        let Stored { value, action } = self.stores[core][self.stores[core].len() - 1];
+        self.record(core, Deed::OwnLoad { from: action });
+        self.cores[core].own = value;
         let shortfall = self.shortfall(core, self.cores[core].cached, size);
         self.cores[core].next = if shortfall == 0 {
             Self::data_or_store(0, size)
@@ -270,11 +295,11 @@ impl<'f> Machine<'f> {
         performed::OWN_LOAD
     }
 
-    /// The store that a foreign load reads and the action that it is, or the mark of its refusal.
-    fn readable(&self, core: usize, age: usize) -> Result<(Stored, Deed), u8> {
+    /// The store that a foreign load reads and the action that it is, or why it may not be.
+    fn readable(&self, core: usize, age: usize) -> Result<(Stored, Deed), Unreadable> {
         let stores = &self.stores[1 - core];
         if age >= stores.len() {
-            return Err(refused::AGE_TOO_GREAT);
+            return Err(Unreadable::PastInitial);
         }
         let place = stores.len() - 1 - age;
         let store = stores[place];
@@ -286,10 +311,20 @@ impl<'f> Machine<'f> {
             acquire: self.strong(core, false),
             from: store.action,
         };
-        if self.actions.hides(&later, self.action(core, deed)) {
-            return Err(refused::HIDDEN);
+        let hidden = self.actions.hides(&later, self.action(core, deed));
+        if hidden.axiom_2 || self.coherent && hidden.coherence {
+            return Err(Unreadable::Hidden(hidden));
         }
         Ok((store, deed))
+    }
+
+    /// What hides the store from the core's foreign load, were it made at this age.
+    #[cfg(feature = "library")]
+    pub fn hidden(&self, core: usize, age: u8) -> Option<Hidden> {
+        match self.readable(core, usize::from(age)) {
+            Err(Unreadable::Hidden(hidden)) => Some(hidden),
+            _ => None,
+        }
     }
 
     /// Whether the core's foreign load, were it made at this age, would be performed and the batch fail.
@@ -303,7 +338,14 @@ impl<'f> Machine<'f> {
     }
 
     fn foreign_load(&mut self, core: usize, size: u32, age: usize) -> Result<u8, u8> {
-        let (store, deed) = self.readable(core, age)?;
+        let (store, deed) = match self.readable(core, age) {
+            Ok(readable) => readable,
+            Err(Unreadable::PastInitial) => return Err(refused::AGE_TOO_GREAT),
+            Err(Unreadable::Hidden(hidden)) => {
+                self.cores[core].hidden.push(hidden);
+                return Err(refused::HIDDEN);
+            }
+        };
         self.record(core, deed);
         let before = std::mem::replace(&mut self.cores[core].cached, store.value);
         let shortfall = Shortfall {

@@ -1,5 +1,6 @@
 //! How often each code, mark, order setting and border was seen, counted by files.
 
+use crate::actions::Hidden;
 use crate::file::{MOST_BYTES, MOST_MODULUS, MOST_SLOTS, REPORT_BYTES};
 use crate::machine::{largest, performed, refused, report, Shortfall, CONSUMER, PRODUCER};
 use crate::print::Played;
@@ -32,6 +33,14 @@ pub struct Tally {
     pub settings: [u64; 16],
     races: [u64; 16],
     hidden: [u64; 16],
+    /// Files in which a store was hidden by coherence alone, by setting.
+    pub coherence: [u64; 16],
+    /// Files in which a store was hidden from the producer, and from the consumer: by both rules, by coherence alone, by axiom 2 alone.
+    pub hidden_by: [[u64; 3]; 2],
+    /// Files in which the producer, and the consumer, loaded again the store that it had read last, an older one.
+    pub read_again: [u64; 2],
+    /// Files in which the producer, and the consumer, loaded a store whose place the other core's loads had passed in the other index.
+    pub read_behind: [u64; 2],
     /// Files in which back, and front, passed the modulus so many times or more.
     pub wraps: [[u64; WRAPS.len()]; 2],
     /// Files in which the producer, and the consumer, completed 255 batches.
@@ -83,6 +92,10 @@ impl Tally {
             settings: [0; 16],
             races: [0; 16],
             hidden: [0; 16],
+            coherence: [0; 16],
+            hidden_by: [[0; 3]; 2],
+            read_again: [0; 2],
+            read_behind: [0; 2],
             wraps: [[0; WRAPS.len()]; 2],
             all_completed: [0; 2],
             oldest_loads: [0; 2],
@@ -115,6 +128,8 @@ impl Tally {
             self.count_marks(file, played);
             self.count_entries(file, played);
             self.count_shortfalls(played);
+            self.count_hidden(file, played);
+            self.count_reads(file, played);
         }
     }
 
@@ -167,6 +182,47 @@ impl Tally {
         }
     }
 
+    fn count_hidden(&mut self, file: &[u8], played: &Played) {
+        let hidden = &played.inside.hidden;
+        let by_both: fn(&Hidden) -> bool = |by| by.axiom_2 && by.coherence;
+        let rules = [
+            by_both,
+            Hidden::by_coherence_alone,
+            Hidden::by_axiom_2_alone,
+        ];
+        for (files, hidden) in self.hidden_by.iter_mut().zip(hidden) {
+            for (files, rule) in files.iter_mut().zip(rules) {
+                *files += u64::from(hidden.iter().any(rule));
+            }
+        }
+        let alone = hidden.iter().flatten().any(Hidden::by_coherence_alone);
+        self.coherence[usize::from(file[5])] += u64::from(alone);
+    }
+
+    /// The places of the stores that foreign loads read, by the marks and the ages.
+    fn count_reads(&mut self, file: &[u8], played: &Played) {
+        let schedule = &file[file.len() - 2 * played.marks.len()..];
+        let (mut stores, mut latest) = ([0; 2], [None; 2]);
+        let (mut again, mut behind) = ([false; 2], [false; 2]);
+        for (&mark, entry) in played.marks.iter().zip(schedule.chunks(2)) {
+            let (core, age) = (usize::from(entry[0]), usize::from(entry[1]));
+            match mark {
+                performed::INDEX_STORE => stores[core] += 1,
+                performed::ROOM_ENOUGH | performed::BATCH_FAILED => {
+                    let place = Some(stores[1 - core] - age);
+                    again[core] |= age != 0 && place == latest[core];
+                    behind[core] |= place < latest[1 - core];
+                    latest[core] = place;
+                }
+                _ => {}
+            }
+        }
+        for core in [PRODUCER, CONSUMER] {
+            self.read_again[core] += u64::from(again[core]);
+            self.read_behind[core] += u64::from(behind[core]);
+        }
+    }
+
     fn count_shortfalls(&mut self, played: &Played) {
         for (core, shortfalls) in played.inside.shortfalls.iter().enumerate() {
             let reported = played.numbers[report::SHORTFALL + core];
@@ -191,6 +247,11 @@ impl Tally {
         add(&mut self.settings, &more.settings);
         add(&mut self.races, &more.races);
         add(&mut self.hidden, &more.hidden);
+        add(&mut self.coherence, &more.coherence);
+        add(&mut self.hidden_by[PRODUCER], &more.hidden_by[PRODUCER]);
+        add(&mut self.hidden_by[CONSUMER], &more.hidden_by[CONSUMER]);
+        add(&mut self.read_again, &more.read_again);
+        add(&mut self.read_behind, &more.read_behind);
         add(&mut self.wraps[PRODUCER], &more.wraps[PRODUCER]);
         add(&mut self.wraps[CONSUMER], &more.wraps[CONSUMER]);
         add(&mut self.all_completed, &more.all_completed);
@@ -222,10 +283,11 @@ impl fmt::Display for Tally {
             writeln!(to, "mark {mark}: {files} files, {entries} entries")?;
         }
         for bits in 0..16 {
-            let (files, races, hidden) = (self.settings[bits], self.races[bits], self.hidden[bits]);
+            let (files, races) = (self.settings[bits], self.races[bits]);
+            let (hidden, coherence) = (self.hidden[bits], self.coherence[bits]);
             writeln!(
                 to,
-                "orders {bits}: {files} files, {races} with a race, {hidden} with a hidden store"
+                "orders {bits}: {files} files, {races} with a race, {hidden} with a hidden store, {coherence} by coherence alone"
             )?;
         }
         for (core, (name, index)) in [("producer", "back"), ("consumer", "front")]
@@ -239,6 +301,16 @@ impl fmt::Display for Tally {
             writeln!(
                 to,
                 "{name}: 255 batches completed in {completed} files, a foreign load at age 255 in {oldest}"
+            )?;
+            let [both, coherence, axiom_2] = self.hidden_by[core];
+            writeln!(
+                to,
+                "{name}: a store hidden by both rules in {both} files, by coherence alone in {coherence}, by axiom 2 alone in {axiom_2}"
+            )?;
+            let (again, behind) = (self.read_again[core], self.read_behind[core]);
+            writeln!(
+                to,
+                "{name}: an older store read again in {again} files, one behind the other core's in {behind}"
             )?;
         }
         for (core, name) in ["push", "pop"].into_iter().enumerate() {

@@ -9,7 +9,7 @@ use native.Mathlib.Omega.{arith}
 use lib.Dec.{eqb}
 use borrow.Author.Tests.{ltb-true}
 use Rattle.order.specs.Trace.{Core, other, Ring, index, load, Trace, valueOf, who}
-use Rattle.order.specs.Hidden.{Hidden}
+use Rattle.order.specs.Reads.{OutOfReach}
 use Rattle.order.proofs.Trace.{clash, and-true, same-true, StoreOf, stores-are}
 use Rattle.model.specs.File.{Entry}
 use Rattle.model.specs.Marks.{batchFailed}
@@ -57,7 +57,7 @@ pub record Lost (g : Shape) (r : Ring) (c : Core) (q : Queue) (t : Trace) (x : R
   pub had : q .side c .batches ≡ size ∷ rest
   pub waiting : q .side c .phase ≡ reload
   pub is-store : StoreOf t (index r (other c)) from
-  pub in-reach : ¬ Hidden (g .orders) t c (index r (other c)) from
+  pub in-reach : ¬ OutOfReach (g .orders) t c (index r (other c)) from
   pub short : isShort g r c size (q .side c .own) (valueOf t from) ≡ true
   pub did-is : x .did ≡ load c (index r (other c)) from
   pub own-is : x .queue .side c .own ≡ q .side c .own

@@ -10,13 +10,13 @@ use native.Mathlib.Decide.{decLe}
 use lib.Dec.{ltb}
 use lib.ListN.{length, drop}
 use borrow.Author.Tests.{ltb-true, ltb-false}
-use Rattle.order.specs.Trace.{Core, other, Ring, index, slot, Act, load, Trace, stores, isStore}
+use Rattle.order.specs.Trace.{Core, other, Ring, index, slot, Act, load, Trace, isStore}
 use Rattle.order.specs.Order.{Orders}
-use Rattle.order.specs.computed.Record.{know, newer, rival}
+use Rattle.order.specs.computed.Record.{know, outOfReach, rival}
 use Rattle.order.proofs.Trace.{clash, cond-elim, StoreOf}
 use Rattle.order.proofs.Chain.{Fits, Formed}
 use Rattle.order.proofs.Record.{AccessOf}
-use Rattle.order.proofs.Decided.{hidden-decided, race-decided, calm-decided}
+use Rattle.order.proofs.Decided.{reach-decided, race-decided, calm-decided}
 use Rattle.model.specs.Limits.{reportBytes}
 use Rattle.model.specs.File.{Entry, scheduleOf}
 use Rattle.model.specs.Codes.{codeOf}
@@ -30,13 +30,13 @@ use Rattle.model.specs.computed.Machine.{decided, entered, step, results
 use Rattle.model.proofs.Formed.{PlanFits, plan-fits, step-fits}
 
 module _ (o : Orders) (r : Ring) (c : Core) (q : Queue) (t : Trace) (f : Formed t) where
-  of-hidden : (s n : ℕ) (z : Queue) → StoreOf t (index r (other c)) s
+  of-load : (s n : ℕ) (z : Queue) → StoreOf t (index r (other c)) s
       → Does o c q t (unless-hidden (index r (other c)) s n z) (decided o c q t (unless-hidden (index r (other c)) s n z))
-  of-hidden s n z st =
-      cond-elim (Does o c q t (unless-hidden (index r (other c)) s n z)) (newer (stores t (index r (other c))) s (know o t c))
+  of-load s n z st =
+      cond-elim (Does o c q t (unless-hidden (index r (other c)) s n z)) (outOfReach o t c (index r (other c)) s)
       (refused q storeHidden) (performed n (load c (index r (other c)) s) z)
-      (λ e. inl (hidden-decided o t f c r s st .0 e, refl))
-      (λ e. inr ((λ h. let k = hidden-decided o t f c r s st .1 h in clash (cc)), refl))
+      (λ e. inl (reach-decided o t f c r s st .0 e, refl))
+      (λ e. inr ((λ h. let k = reach-decided o t f c r s st .1 h in clash (cc)), refl))
 
   of-race : (y : ℕ) (a : Act) (n : ℕ) (z : Queue) → AccessOf a c r y → Fits t a
       → Does o c q t (unless-race (slot r y) a n z) (decided o c q t (unless-race (slot r y) a n z))
@@ -55,7 +55,7 @@ module _ (o : Orders) (r : Ring) (c : Core) (q : Queue) (t : Trace) (f : Formed 
   does-decided (perform n a z) h = refl
   does-decided (unless-hidden x s n z) h =
       let st : StoreOf t (index r (other c)) s = rw (h .0) at (h .1) in
-      rw (h .0) (of-hidden s n z st)
+      rw (h .0) (of-load s n z st)
   does-decided (unless-race x a n z) h = rw (h .1) (of-race (h .0) a n z (h .2) (h .3))
 
 entered-allowed : (g : Shape) (s : State) (age : ℕ) (c : Option Core) (h : Bool) → Formed (s .trace) → Entered g s age c h (entered g s age c h)
@@ -65,7 +65,7 @@ entered-allowed g s age (some c) false f =
     does-decided (g .orders) theRing c (s .queue) (s .trace) f (plan g theRing c (s .queue) (s .trace) age)
     (plan-fits g theRing c (s .queue) (s .trace) age)
 
-step-allowed : (g : Shape) (s : State) (e : Entry) → Formed (s .trace) → Step g s e (step g s e)
+pub step-allowed : (g : Shape) (s : State) (e : Entry) → Formed (s .trace) → Step g s e (step g s e)
 step-allowed g s e f = entered-allowed g s (e .age) (coreOf (e .core)) (s .halted) f
 
 -- The computed run is one that the definition allows.

@@ -1,5 +1,5 @@
 -- What a core does next, as far as that is decided without the memory rules: the plan of an entry. Two questions are left open in it: whether
--- the store to be read is hidden, and whether the access races.
+-- the store to be read is out of reach, and whether the access races.
 use mathlib.Core.Bool.{Bool, true, false, cond}
 use mathlib.Core.Option.{Option, none, some}
 use mathlib.Core.List.{List, [], _∷_, _++_}
@@ -10,8 +10,8 @@ use Rattle.order.specs.Trace.{Core, other, Ring, Place, index, slot, Act, load,
 use Rattle.model.specs.Marks.{ownLoaded, foreignLoaded, batchFailed, dataStored, dataLoaded, indexStored, noBatchLeft, noAgeHere, pastInitial}
 use Rattle.model.specs.Queue.{Shape, Phase, start, reload, moving, Side, Queue, withSide, pushes, isShort}
 
--- Refuse with this mark; act, with this mark and the queue after it; load the foreign index and read store s, unless s is hidden; access slot x,
--- unless that races.
+-- Refuse with this mark; act, with this mark and the queue after it; load the foreign index and read store s, unless s is out of reach;
+-- access slot x, unless that races.
 pub data Plan : Type 0 where
   refuse : (mark : ℕ) → Plan
   perform : (mark : ℕ) (a : Act) (after : Queue) → Plan

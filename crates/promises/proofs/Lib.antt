@@ -8,6 +8,7 @@ pub mod Moves
 pub mod Pushed
 pub mod Strong
 pub mod Call
+pub mod Coherence
 pub mod Same
 pub mod Turn
 pub mod Course

@@ -12,6 +12,7 @@ use lib.Dec.{eqb}
 use borrow.Author.Tests.{ltb-false}
 use Rattle.order.specs.Trace.{Core, core0, core1, other, sameCore, Ring, index, slot, Act, idle, load, store, Trace, isStore, storesTo, latest, valueOf, who}
 use Rattle.order.specs.Hidden.{Hidden}
+use Rattle.order.specs.Reads.{hidden}
 use Rattle.order.specs.Race.{RacesWith}
 use Rattle.order.specs.computed.Record.{know}
 use Rattle.order.proofs.Trace.{clash, cond-elim, and-false, other-other, same-other, storesTo-self, stores-are, latest-is, StoreOf, newest, older, at}
@@ -400,10 +401,10 @@ module _ (g : Shape) (r : Ring) (l : Sizes g) (t : Trace) (q : Queue) (I : Invar
   goes (owning n rest eb ep) x d = rw d (acts ownLoaded _ _ (λ h. clash (omega arith)) (owning-keeps n rest ep))
   goes (failing n rest s eb ep e h) x (inl d) = rw (d .1) (stays storeHidden (λ h. clash (omega arith)))
   goes {age} (failing n rest s eb ep e h) x (inr d) = rw (d .1) (acts batchFailed _ _ (λ h. clash (omega arith))
-      (failing-keeps s (stores-are t (index r (other c)) age s e) (d .0) rest (passOver (pushes r c) n (q .feed)) ep))
+      (failing-keeps s (stores-are t (index r (other c)) age s e) (λ u. d .0 (hidden u)) rest (passOver (pushes r c) n (q .feed)) ep))
   goes (keeping n rest s eb ep e h) x (inl d) = rw (d .1) (stays storeHidden (λ h. clash (omega arith)))
   goes {age} (keeping n rest s eb ep e h) x (inr d) = rw (d .1) (acts foreignLoaded _ _ (λ h. clash (omega arith))
-      (keeping-keeps s (stores-are t (index r (other c)) age s e) (d .0) n rest ep h))
+      (keeping-keeps s (stores-are t (index r (other c)) age s e) (λ u. d .0 (hidden u)) n rest ep h))
   goes (storing n rest i eb ep h k) x (inl d) = rw (d .2) (races _ (d .0) (λ st.
       strong-no-race g r l t (I .formed) (I .only) c me (q .side (other c)) mine yours n i rest eb ep st h
       (store c (slot r (slotOf g (me .own) i)) (getD (q .feed) 0 0)) (tt, I .formed) (inr (getD (q .feed) 0 0, refl)) (d .0) (d .1 .races)))

@@ -11,6 +11,7 @@ use lib.Dec.{eqb}
 use lib.Seq.{take-append-le, take-all}
 use Rattle.order.specs.Trace.{Core, core0, core1, other, sameCore, Ring, index, Trace, act, storesTo, valueOf}
 use Rattle.order.specs.Order.{Orders}
+use Rattle.order.specs.Reads.{hidden}
 use Rattle.order.proofs.Trace.{clash, and-true, same-true, newest, older, store-at, StoreOf}
 use Rattle.model.specs.File.{Entry, total, orderBits}
 use Rattle.model.specs.Codes.{Lawful}
@@ -154,7 +155,7 @@ module _ (f : List ℕ) (lawful : Lawful f) (strong : orderBits f ≡ allStrong)
       let own : me .own ≡ length (me .completed) % shapeOf f .modulus = rw (l .waiting) at (mine .own-is) in
       let value = store-value (shapeOf f) t (other c) theRing (length (you .completed)) (yours .log) (l .from) (l .is-store) in
       let le = store-le (shapeOf f) t (other c) theRing (length (you .completed)) (yours .log) (l .from) (l .is-store) in
-      let far = forward (shapeOf f) theRing z t (I .formed) (I .only) c me you mine yours (l .from) (l .is-store) (l .in-reach) in
+      let far = forward (shapeOf f) theRing z t (I .formed) (I .only) c me you mine yours (l .from) (l .is-store) (λ u. l .in-reach (hidden u)) in
       let room = room-of (shapeOf f) theRing z t (I .formed) (I .only) c me you mine yours (me .own) (valueOf t (l .from)) k own value le far in
       let done = done-bytes f c run in
       let by : d ≡ l .size - ((k + lead (shapeOf f) theRing c) - length (me .completed)) = e ∙ ap (λ (w : ℕ). l .size - w) room in

@@ -9,7 +9,9 @@ use lib.ListN.{getElem?, getD, set, drop}
 use borrow.Author.Tests.{lt-ltb, le-ltb}
 use Rattle.order.specs.Trace.{Core, core0, core1, other, Place, index, slot, Act, load, store, Trace, stores, latest, valueOf, isStore}
 use Rattle.order.specs.Order.{Orders}
-use Rattle.order.specs.computed.Record.{know, newer, rival}
+use Rattle.order.specs.computed.Record.{know, rival}
+use Rattle.order.proofs.Chain.{Formed}
+use Rattle.order.proofs.Decided.{latest-decided}
 use Rattle.model.specs.File.{Entry}
 use Rattle.model.specs.Marks.{foreignLoaded, dataStored, dataLoaded, raceFound, storeHidden}
 use Rattle.model.specs.Queue.{Shape, Phase, start, reload, moving, Side, Queue, isShort}
@@ -17,15 +19,17 @@ use Rattle.model.specs.Plan.{Plan, unless-race, turned, ownLoad, foreignLoadOf,
 use Rattle.model.specs.Run.{Result, refused, performed, State, after, theRing}
 use Rattle.model.specs.Report.{raceFrom}
 use Rattle.model.specs.computed.Machine.{decided, step, results}
+use Rattle.model.proofs.Formed.{step-fits}
+use Rattle.model.proofs.Some.{step-allowed}
 use Rattle.model.proofs.Sides.{with-same, with-other}
 
 -- The machine, not halted.
 abbrev pub going : Queue → Trace → State
 going q t = record { trace = t; queue = q; halted = false }
 
--- A run over these entries races, whatever the first of them is counted as.
+-- A run over these entries races, whatever the first of them is counted as; the trace before them is one that a machine makes.
 abbrev pub Racy : Shape → State → List Entry → Type 0
-Racy g s es = (n : ℕ) → 0 < n → ¬ (raceFrom n (results g s es) ≡ 0)
+Racy g s es = Formed (s .trace) → (n : ℕ) → 0 < n → ¬ (raceFrom n (results g s es) ≡ 0)
 
 -- An entry of core c, with age 0.
 abbrev pub entry : Core → Entry
@@ -37,11 +41,12 @@ first-or-later true n k l h e = omega arith
 first-or-later false n k l h e = h e
 
 racy-later : (g : Shape) (s : State) (e : Entry) (es : List Entry) → Racy g (after s (step g s e)) es → Racy g s (e ∷ es)
-racy-later g s e es h n l =
-    first-or-later (eqb (step g s e .mark) raceFound) n (raceFrom (suc n) (results g (after s (step g s e)) es)) l (h (suc n) (omega arith))
+racy-later g s e es h f n l =
+    first-or-later (eqb (step g s e .mark) raceFound) n (raceFrom (suc n) (results g (after s (step g s e)) es)) l
+    (h (step-fits g s e (step g s e) (step-allowed g s e f), f) (suc n) (omega arith))
 
 racy-now : (g : Shape) (s : State) (e : Entry) (es : List Entry) → step g s e .mark ≡ raceFound → Racy g s (e ∷ es)
-racy-now g s e es h n l = rw h (λ k. omega arith)
+racy-now g s e es h f n l = rw h (λ k. omega arith)
 
 -- A core's turn
 step-is : (g : Shape) (q : Queue) (t : Trace) (c : Core) → step g (going q t) (entry c) ≡ decided (g .orders) c q t (plan g theRing c q t 0)
@@ -68,9 +73,6 @@ pub record Turned (q q′ : Queue) (c : Core) (l : List ℕ) (p : Phase) (own ca
 
 pub kept : {a b : Side} {l : List ℕ} {p : Phase} {own cached : ℕ} → b ≡ a → Stands a l p own cached → Stands b l p own cached
 kept {l = l} {p = p} {own = own} {cached = cached} e h = subst (λ (s : Side). Stands s l p own cached) (sym e) h
-
-not-newer : (s k : ℕ) → newer (s ∷ 0 ∷ []) s k ≡ false
-not-newer s k = rw (le-ltb s s (omega arith), le-ltb s 0 (omega arith))
 
 turned-so : (q : Queue) (c : Core) (me : Side) (feed : List ℕ) {l : List ℕ} {p : Phase} {own cached : ℕ} → Stands me l p own cached
     → Turned q (turned q c me feed) c l p own cached
@@ -108,17 +110,16 @@ module _ (g : Shape) (q : Queue) (t : Trace) (es : List Entry) (c : Core) (n : �
       → isShort g theRing c n w v ≡ false
       → ((q′ : Queue) → Turned q q′ c (n ∷ rest) (moving 0) w v → Racy g (going q′ (load c (index theRing (other c)) s ∷ t)) es)
       → Racy g (going q t) (entry c ∷ es)
-  foreign-turn s v h el ev short next =
+  foreign-turn s v h el ev short next f =
       let me : Side = record { batches = n ∷ rest; phase = moving 0; own = q .side c .own; cached = valueOf t s; moved = []; completed = q .side c .completed } in
       let ep : plan g theRing c q t 0 ≡ keepBatch theRing c q n rest s (valueOf t s) =
       of-phase h ∙ ap (λ (l : List ℕ). foreignLoadOf g theRing c q t n rest (getElem? l 0)) el
       ∙ ap (λ b. cond b (failBatch theRing c q n rest s (valueOf t s)) (keepBatch theRing c q n rest s (valueOf t s)))
       (ap (λ z. isShort g theRing c n z (valueOf t s)) (h .own-is) ∙ ap (isShort g theRing c n w) ev ∙ short) in
-      let calm : newer (stores t (index theRing (other c))) s (know (g .orders) t c) ≡ false =
-      ap (λ (l : List ℕ). newer l s (know (g .orders) t c)) el ∙ not-newer s (know (g .orders) t c) in
+      let calm = latest-decided (g .orders) t f c theRing s (ap (λ (l : List ℕ). getD l 0 0) el) in
       turn g q t c es (keepBatch theRing c q n rest s (valueOf t s)) _ ep
       (ap (λ b. cond b (refused q storeHidden) (performed foreignLoaded (load c (index theRing (other c)) s) (turned q c me (q .feed)))) calm) refl
-      (next (turned q c me (q .feed)) (turned-so q c me (q .feed) (record { batches-are = refl; phase-is = refl; own-is = h .own-is; cached-is = ev })))
+      (next (turned q c me (q .feed)) (turned-so q c me (q .feed) (record { batches-are = refl; phase-is = refl; own-is = h .own-is; cached-is = ev }))) f
 
   -- The index store.
   pub index-turn : Stands (q .side c) (n ∷ rest) (moving n) w k

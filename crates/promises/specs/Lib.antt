@@ -2,6 +2,7 @@
 pub mod Batches
 pub mod Strong
 pub mod Call
+pub mod Coherence
 pub mod Same
 pub mod Weak
 pub mod Shortfall

@@ -10,8 +10,8 @@ use lib.Dec.{ltb}
 use lib.ListN.{getD, set, length, drop, length-append}
 use lib.Seq.{set-getD, drop-drop}
 use borrow.Author.Tests.{lt-ltb}
-use Rattle.order.specs.Trace.{Core, core0, core1, index, slot, Act, load, store, Trace, next, who, storesTo, latest}
-use Rattle.order.specs.computed.Record.{know, learn, rival}
+use Rattle.order.specs.Trace.{Core, core0, core1, other, index, slot, Act, load, store, Trace, next, who, storesTo, latest}
+use Rattle.order.specs.computed.Record.{know, learn, reads, rival}
 use Rattle.model.specs.File.{ringSize, orderBits, pushSizes, popSizes, pushBytes, ordersOf}
 use Rattle.model.specs.Marks.{dataStored, dataLoaded}
 use Rattle.model.specs.Queue.{moving, Queue}
@@ -27,10 +27,10 @@ use Rattle.ring.specs.computed.Reads.{byteFor}
 use Rattle.ring.specs.computed.Moves as mv
 use Rattle.ring.proofs.Parts.{num, sizesOf, Good, batches-cons, feed-at, progress, phase-after-move}
 use Rattle.ring.proofs.Lists.{listed-old}
-use Rattle.ring.proofs.Rep.{CoreRep, Rep, put-same, put-other}
+use Rattle.ring.proofs.Rep.{list-same, read-kept, CoreRep, Rep, put-same, put-other}
 use Rattle.ring.proofs.Cells.{bytes-stored, bytes-loaded, lately-stored, lately-loaded}
 use Rattle.ring.proofs.Kept.{moved-kept, raced-kept}
-use Rattle.ring.proofs.Join.{Joined, no-more, list-same, step-is}
+use Rattle.ring.proofs.Join.{Joined, no-more, step-is}
 
 -- The ring after a data access of slot y, by whether it races with entry i.
 abbrev accessed : Ring → Core → (y : ℕ) → Bool → (i byte entry : ℕ) → Ring
@@ -96,9 +96,9 @@ module _ {f : List ℕ} (g : Good f) {s : Ring} {st : State} {xs : List Result} 
   moved-facts : let d = mv.movedOn (coreAt s (num c)) false in
       (d .batch ≡ coreAt s (num c) .batch) × (d .passed ≡ coreAt s (num c) .passed) × (d .moved ≡ coreAt s (num c) .moved + 1)
       × (d .done ≡ coreAt s (num c) .done) × (d .failed ≡ coreAt s (num c) .failed)
-      × (d .largest ≡ coreAt s (num c) .largest)
+      × (d .largest ≡ coreAt s (num c) .largest) × (d .read ≡ coreAt s (num c) .read)
   unfolding mv.movedOn
-  moved-facts = (refl, refl, refl, refl, refl, refl)
+  moved-facts = (refl, refl, refl, refl, refl, refl, refl)
 
   data-ring : (y i byte entry : ℕ) → y ≡ pl.slotOf (shapeOf f) (st .queue .side c .own) (coreAt s (num c) .moved)
       → i ≡ mv.rivalOf (getD (s .slots) y freshSlot) (num c)
@@ -113,10 +113,11 @@ module _ {f : List ℕ} (g : Good f) {s : Ring} {st : State} {xs : List Result} 
 
   -- It races: nothing changes but the pair of entries and the mark.
   race-joined : (a : Act) (y i byte : ℕ) → who a ≡ some c → learn (ordersOf (orderBits f)) c a ≡ 0 → ((e : Core) → storesTo (index 0 e) a ≡ false)
+      → reads c (index 0 (other c)) a ≡ 0
       → Joined f (accessed s c y true i byte (next (st .trace))) st xs (raced a (st .queue) i)
   unfolding mv.ifRaces mv.accessMark mv.accessed mv.movedOn
-  race-joined a y i byte acts learns ns = record {
-    rep = raced-kept r h acts learns ns refl refl refl (set-getD (s .slots) y freshSlot) (set-getD (s .cores) (num c) freshCore) refl refl refl refl;
+  race-joined a y i byte acts learns ns nr = record {
+    rep = raced-kept r h acts learns ns nr refl refl refl (set-getD (s .slots) y freshSlot) (set-getD (s .cores) (num c) freshCore) refl refl refl refl;
     mark-is = refl;
     performs = refl;
     out-is = no-more (st .queue .out);
@@ -184,6 +185,8 @@ module _ {f : List ℕ} (g : Good f) {s : Ring} {st : State} {xs : List Result} 
           plain = omega arith;
           core-new = moved-core g r h core0 more i ep left a v refl;
           lists-new = λ e. rw (same e) (listed-old a refl (r .list-is e));
+          read-new = rw (z .6) (read-kept a (st .trace) core0 (index 0 core1) refl (r .read-is core0));
+          still-read = λ p e w. w;
           few-new = omega (arith, r .list-few core0);
           few-other = refl;
           bytes-new = bytes-stored (ringSize f) (g .ranges .slots) (s .slots) (st .queue .slots) y lt (r .bytes-are) v (next (st .trace)) byte-small;
@@ -226,7 +229,7 @@ module _ {f : List ℕ} (g : Good f) {s : Ring} {st : State} {xs : List Result} 
       by-race : (b : Bool) (y k : ℕ) → y < ringSize f
           → Joined f (accessed s core0 y b k (getD (st .queue .feed) 0 0) (next (st .trace))) st xs
           (cond b (raced (store core0 (slot 0 y) (getD (st .queue .feed) 0 0)) (st .queue) k) (performed dataStored (store core0 (slot 0 y) (getD (st .queue .feed) 0 0)) (pushed y)))
-      by-race true y k lt = race-joined g r h core0 more i ep left (store core0 (slot 0 y) (getD (st .queue .feed) 0 0)) y k (getD (st .queue .feed) 0 0) refl refl (λ e. refl)
+      by-race true y k lt = race-joined g r h core0 more i ep left (store core0 (slot 0 y) (getD (st .queue .feed) 0 0)) y k (getD (st .queue .feed) 0 0) refl refl (λ e. refl) refl
       by-race false y k lt = store-moves y k lt
 
 -- The consumer's data load.
@@ -265,6 +268,8 @@ module _ {f : List ℕ} (g : Good f) {s : Ring} {st : State} {xs : List Result} 
           plain = omega arith;
           core-new = moved-core g r h core1 more i ep left a v refl;
           lists-new = λ x. rw (same x) (listed-old a refl (r .list-is x));
+          read-new = rw (z .6) (read-kept a (st .trace) core1 (index 0 core0) refl (r .read-is core1));
+          still-read = λ p e w. w;
           few-new = omega (arith, r .list-few core1);
           few-other = refl;
           bytes-new = bytes-loaded (ringSize f) (g .ranges .slots) (s .slots) (st .queue .slots) y lt (r .bytes-are) (next (st .trace));
@@ -304,5 +309,5 @@ module _ {f : List ℕ} (g : Good f) {s : Ring} {st : State} {xs : List Result} 
           → Joined f (accessed s core1 y b k byte (next (st .trace))) st xs
           (cond b (raced (load core1 (slot 0 y) (latest (st .trace) (slot 0 y))) (st .queue) k)
           (performed dataLoaded (load core1 (slot 0 y) (latest (st .trace) (slot 0 y))) (popped y)))
-      by-race true y k lt = race-joined g r h core1 more i ep left (load core1 (slot 0 y) (latest (st .trace) (slot 0 y))) y k byte refl refl (λ e. refl)
+      by-race true y k lt = race-joined g r h core1 more i ep left (load core1 (slot 0 y) (latest (st .trace) (slot 0 y))) y k byte refl refl (λ e. refl) refl
       by-race false y k lt = load-moves y k (latest (st .trace) (slot 0 y)) byte lt

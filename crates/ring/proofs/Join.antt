@@ -9,12 +9,12 @@ use native.Mathlib.Nat.{mod-lt}
 use native.Mathlib.Numerals.{add-one}
 use lib.Dec.{eqb, ltb}
 use lib.ListN.{getD, set, length, drop, length-append}
-use lib.Seq.{drop-drop}
-use borrow.Author.Tests.{ltb-true, lt-ltb, le-ltb, le-leb}
+use lib.Seq.{drop-drop, getD-set-other}
+use borrow.Author.Tests.{ltb-true, ltb-false, lt-ltb, le-ltb, le-leb}
 use Rattle.order.specs.Trace.{Core, core0, core1, other, sameCore, index, slot, Act, load, store, Trace, next, who, storesTo, accesses, stores, latest, valueOf}
 use Rattle.order.specs.Order.{Orders}
-use Rattle.order.specs.computed.Record.{know, learn, newer}
-use Rattle.order.proofs.Trace.{cond-elim, and-false}
+use Rattle.order.specs.computed.Record.{know, learn, newer, reads, seen, outOfReach}
+use Rattle.order.proofs.Trace.{cond-elim, and-false, or-none}
 use Rattle.model.specs.File.{ringSize, modulusOf, orderBits, pushBytes, ordersOf}
 use Rattle.model.specs.Marks.{ownLoaded, foreignLoaded, batchFailed, indexStored, raceFound}
 use Rattle.model.specs.Queue.{Shape, Phase, start, reload, moving, Side, Queue, pushes, shortfallOf, shortfall, lead, isShort}
@@ -26,12 +26,13 @@ use Rattle.model.proofs.Total.{total-take-suc}
 use Rattle.ring.specs.declared.state.Stores.{Stores}
 use Rattle.ring.specs.declared.state.Core as rc
 use Rattle.ring.specs.declared.state.Ring.{Ring}
-use Rattle.ring.specs.computed.State.{freshCore, pushed, placeOf, newestOf, laterKnown, chosen, coreAt}
+use Rattle.ring.specs.computed.State as states
+use Rattle.ring.specs.computed.State.{freshCore, pushed, placeOf, newestOf, chosen, coreAt}
 use Rattle.ring.specs.computed.Reads.{sizeAt}
 use Rattle.ring.specs.computed.Moves as mv
 use Rattle.ring.proofs.Parts.{num, sizesOf, Good, sizes-few, size-small, size-at, batches-cons, progress, phase-after-load, learnt-is}
-use Rattle.ring.proofs.Lists.{Listed, listed-old, listed-new, newest-is, newest-below, walk-is}
-use Rattle.ring.proofs.Rep.{listOf, Sized, CoreRep, Rep, short, put-same, put-other, both, lately-kept}
+use Rattle.ring.proofs.Lists.{Listed, listed-some, listed-old, listed-new, newest-is, newest-below, ReadTo, reach-is}
+use Rattle.ring.proofs.Rep.{listOf, list-same, read-kept, Sized, CoreRep, Rep, short, put-same, put-other, both, lately-kept}
 use Rattle.ring.proofs.Kept.{moved-kept, no-race, partner-none}
 
 -- The byte that a move wrote to out.
@@ -64,11 +65,6 @@ unfolding mv.leadOf
 lead-is f core0 m e = e
 lead-is f core1 m e = refl
 
--- One core moves and no list: both lists are what they were.
-pub list-same : (s s′ : Ring) → s′ .back ≡ s .back → s′ .front ≡ s .front → (e : Core) → listOf s′ e ≡ listOf s e
-list-same s s′ p q core0 = p
-list-same s s′ p q core1 = q
-
 -- The bytes pushed so far are the first core's business, the bytes read the second's.
 pub feed-keeps : (l : List rc.Core) → length l ≡ 2 → (c : Core) (d : rc.Core)
     → d .passed + d .moved ≡ getD l (num c) freshCore .passed + getD l (num c) freshCore .moved
@@ -92,6 +88,14 @@ step-is f st core1 age h = ap (entered (shapeOf f) st age (some core1)) h
 own-learns-nothing : (o : Orders) (c : Core) (s : ℕ) → learn o c (load c (index 0 c) s) ≡ 0
 own-learns-nothing o core0 s = refl
 own-learns-nothing o core1 s = refl
+
+own-reads-nothing : (c : Core) (s : ℕ) → reads c (index 0 (other c)) (load c (index 0 c) s) ≡ 0
+own-reads-nothing core0 s = refl
+own-reads-nothing core1 s = refl
+
+foreign-reads : (c : Core) (s : ℕ) → reads c (index 0 (other c)) (load c (index 0 (other c)) s) ≡ s
+foreign-reads core0 s = refl
+foreign-reads core1 s = refl
 
 -- A load of an index accesses no slot.
 no-slot : (e c : Core) (y : ℕ) → (sameCore e c && false) ≡ false
@@ -124,8 +128,9 @@ module _ {f : List ℕ} (g : Good f) {s : Ring} {st : State} {xs : List Result} 
       → d .done + d .moved ≡ coreAt s (num c) .done + coreAt s (num c) .moved
       → d .failed ≡ coreAt s (num c) .failed + one (eqb mark batchFailed)
       → d .largest ≡ max (coreAt s (num c) .largest) (cond (eqb mark batchFailed) (missed (shapeOf f) c (st .queue .side c .batches) me) 0)
+      → ReadTo (listOf s (other c)) (d .read) (seen (a ∷ st .trace) c (index 0 (other c)))
       → Joined f (mv.withCore s (num c) d mark) st xs (performed mark a (pl.turned (st .queue) c me feed))
-  core-joined a mark d me feed acts plain no5 ns na core later fed outs fails misses =
+  core-joined a mark d me feed acts plain no5 ns na core later fed outs fails misses read =
       let s′ : Ring = mv.withCore s (num c) d mark in
       let same = list-same s s′ refl refl in
       record {
@@ -141,6 +146,8 @@ module _ {f : List ℕ} (g : Good f) {s : Ring} {st : State} {xs : List Result} 
           plain = plain;
           core-new = core;
           lists-new = λ e. rw (same e) (listed-old a (ns e) (r .list-is e));
+          read-new = rw (same (other c)) read;
+          still-read = λ p e w. rw (same c) w;
           few-new = rw (same c) (omega (arith, r .list-few c, later));
           few-other = ap (λ (l : Stores). l .count) (same (other c));
           bytes-new = r .bytes-are;
@@ -190,9 +197,9 @@ module _ {f : List ℕ} (g : Good f) {s : Ring} {st : State} {xs : List Result} 
 
   own-facts : (v n : ℕ) (b : Bool) → let d = mv.ownLoaded (coreAt s (num c)) v n b in
       (coreAt s (num c) .batch ≤ d .batch) × (d .passed ≡ coreAt s (num c) .passed) × (d .moved ≡ 0) × (d .done ≡ coreAt s (num c) .done)
-      × (d .failed ≡ coreAt s (num c) .failed) × (d .largest ≡ coreAt s (num c) .largest)
+      × (d .failed ≡ coreAt s (num c) .failed) × (d .largest ≡ coreAt s (num c) .largest) × (d .read ≡ coreAt s (num c) .read)
   unfolding mv.ownLoaded
-  own-facts v n b = (omega arith, refl, refl, refl, refl, refl)
+  own-facts v n b = (omega arith, refl, refl, refl, refl, refl, refl)
 
   own-ring : (v : ℕ) → v ≡ valueOf (st .trace) (latest (st .trace) (index 0 c))
       → mv.ownLoad s (num c) (sizeAt f (num c) (coreAt s (num c) .batch))
@@ -231,12 +238,13 @@ module _ {f : List ℕ} (g : Good f) {s : Ring} {st : State} {xs : List Result} 
       (omega (arith, own-facts v n b, still))
       (omega (arith, own-facts v n b))
       (omega (arith, own-facts v n b))
+      (rw (own-facts v n b .6) (read-kept a t c (index 0 (other c)) (own-reads-nothing c (latest t (index 0 c))) (r .read-is c)))
       )
 
   -- 2. The foreign load.
 
-  failed-core : (a : Act) (v k x : ℕ) → k ≡ know (ordersOf (orderBits f)) (a ∷ st .trace) c → st .queue .side c .phase ≡ reload
-      → CoreRep f (a ∷ st .trace) c (mv.batchLost (coreAt s (num c)) v k x) (record {
+  failed-core : (a : Act) (v p k x : ℕ) → k ≡ know (ordersOf (orderBits f)) (a ∷ st .trace) c → st .queue .side c .phase ≡ reload
+      → CoreRep f (a ∷ st .trace) c (mv.batchLost (coreAt s (num c)) v p k x) (record {
         batches = drop (coreAt s (num c) .batch + 1) (sizesOf f c);
         phase = start;
         own = st .queue .side c .own;
@@ -245,7 +253,7 @@ module _ {f : List ℕ} (g : Good f) {s : Ring} {st : State} {xs : List Result} 
         completed = st .queue .side c .completed;
       })
   unfolding mv.batchLost
-  failed-core a v k x ek ep =
+  failed-core a v p k x ek ep =
       let d = r .core-is c in
       let still : coreAt s (num c) .moved ≡ 0 = d .moved-is ∙ ap progress ep in
       let en : coreAt s (num c) .size ≡ getD (sizesOf f c) (coreAt s (num c) .batch) 0 = (rw ep at (d .sized)) .1 in
@@ -267,8 +275,8 @@ module _ {f : List ℕ} (g : Good f) {s : Ring} {st : State} {xs : List Result} 
         failed-le = omega (arith, d .failed-le);
       }
 
-  kept-core : (a : Act) (v k : ℕ) → k ≡ know (ordersOf (orderBits f)) (a ∷ st .trace) c → st .queue .side c .phase ≡ reload
-      → CoreRep f (a ∷ st .trace) c (mv.batchKept (coreAt s (num c)) v k) (record {
+  kept-core : (a : Act) (v p k : ℕ) → k ≡ know (ordersOf (orderBits f)) (a ∷ st .trace) c → st .queue .side c .phase ≡ reload
+      → CoreRep f (a ∷ st .trace) c (mv.batchKept (coreAt s (num c)) v p k) (record {
         batches = getD (sizesOf f c) (coreAt s (num c) .batch) 0 ∷ drop (coreAt s (num c) .batch + 1) (sizesOf f c);
         phase = moving 0;
         own = st .queue .side c .own;
@@ -277,7 +285,7 @@ module _ {f : List ℕ} (g : Good f) {s : Ring} {st : State} {xs : List Result} 
         completed = st .queue .side c .completed;
       })
   unfolding mv.batchKept
-  kept-core a v k ek ep =
+  kept-core a v p k ek ep =
       let d = r .core-is c in
       let still : coreAt s (num c) .moved ≡ 0 = d .moved-is ∙ ap progress ep in
       let sz = rw ep at (d .sized) in
@@ -299,13 +307,13 @@ module _ {f : List ℕ} (g : Good f) {s : Ring} {st : State} {xs : List Result} 
         failed-le = d .failed-le;
       }
 
-  foreign-ring : (age e v k : ℕ) → age < listOf s (other c) .count → e ≡ getD (listOf s (other c) .entries) (placeOf (listOf s (other c)) age) 0
+  foreign-ring : (age e v p k : ℕ) → p ≡ placeOf (listOf s (other c)) age → age < listOf s (other c) .count → e ≡ getD (listOf s (other c) .entries) (placeOf (listOf s (other c)) age) 0
       → v ≡ valueOf (st .trace) e → k ≡ know (ordersOf (orderBits f)) (load c (index 0 (other c)) e ∷ st .trace) c → st .queue .side c .phase ≡ reload
       → let x = shortfall (shapeOf f) 0 c (getD (sizesOf f c) (coreAt s (num c) .batch) 0) (st .queue .side c .own) v in
       mv.foreignLoad s (num c) age
-      ≡ mv.withCore s (num c) (cond (ltb 0 x) (mv.batchLost (coreAt s (num c)) v k x) (mv.batchKept (coreAt s (num c)) v k)) (mv.foreignMark (ltb 0 x))
+      ≡ mv.withCore s (num c) (cond (ltb 0 x) (mv.batchLost (coreAt s (num c)) v p k x) (mv.batchKept (coreAt s (num c)) v p k)) (mv.foreignMark (ltb 0 x))
   unfolding mv.foreignLoad mv.foreignLoaded
-  foreign-ring age e v k small ee ev ek ep =
+  foreign-ring age e v p k eq small ee ev ek ep =
       let theirs : Stores = listOf s (other c) in
       let th : chosen (num c) (s .front) (s .back) ≡ listOf s (other c) = chosen-other c (listOf s) in
       let d = r .core-is c in
@@ -315,7 +323,7 @@ module _ {f : List ℕ} (g : Good f) {s : Ring} {st : State} {xs : List Result} 
       let known : mv.learntOf (mv.syncsOf (s .bits) (num c)) (coreAt s (num c) .known) (getD (theirs .entries) (placeOf theirs age) 0) ≡ k =
       learnt-at (s .bits) (orderBits f) (coreAt s (num c) .known) (getD (theirs .entries) (placeOf theirs age) 0) e (r .bits-are) (d .known-is) (sym ee) ∙ sym ek in
       let short = short-same r c n (coreAt s (num c) .own) (st .queue .side c .own) (getD (theirs .values) (placeOf theirs age) 0) v (d .own-is) value in
-      cc (th, en, value, known, short)
+      cc (th, en, value, known, short, eq)
     where
       learnt-at : (bits n kn x e : ℕ) → bits ≡ n → kn ≡ know (ordersOf n) (st .trace) c → x ≡ e
           → mv.learntOf (mv.syncsOf bits (num c)) kn x ≡ know (ordersOf n) (load c (index 0 (other c)) e ∷ st .trace) c
@@ -336,52 +344,52 @@ module _ {f : List ℕ} (g : Good f) {s : Ring} {st : State} {xs : List Result} 
           (drop-drop n (coreAt s 0 .passed + coreAt s 0 .moved) (pushBytes f) ∙ ap (λ (k : ℕ). drop k (pushBytes f)) l)
       go core1 ec en ep em = rw (put-other (s .cores) core1 d) (r .feed-is)
 
-  failed-facts : (v k x : ℕ) → let d = mv.batchLost (coreAt s (num c)) v k x in
+  failed-facts : (v p k x : ℕ) → let d = mv.batchLost (coreAt s (num c)) v p k x in
       (d .batch ≡ coreAt s (num c) .batch + 1) × (d .passed ≡ coreAt s (num c) .passed + coreAt s (num c) .size) × (d .moved ≡ coreAt s (num c) .moved)
       × (d .done ≡ coreAt s (num c) .done) × (d .failed ≡ coreAt s (num c) .failed + 1) × (mv.foreignMark true ≡ batchFailed)
-      × (d .largest ≡ max (coreAt s (num c) .largest) x)
+      × (d .largest ≡ max (coreAt s (num c) .largest) x) × (d .read ≡ p)
   unfolding mv.batchLost mv.foreignMark
-  failed-facts v k x = (refl, refl, refl, refl, refl, refl, refl)
+  failed-facts v p k x = (refl, refl, refl, refl, refl, refl, refl, refl)
 
-  kept-facts : (v k : ℕ) → let d = mv.batchKept (coreAt s (num c)) v k in
+  kept-facts : (v p k : ℕ) → let d = mv.batchKept (coreAt s (num c)) v p k in
       (d .batch ≡ coreAt s (num c) .batch) × (d .passed ≡ coreAt s (num c) .passed) × (d .moved ≡ coreAt s (num c) .moved)
       × (d .done ≡ coreAt s (num c) .done) × (d .failed ≡ coreAt s (num c) .failed) × (mv.foreignMark false ≡ foreignLoaded)
-      × (d .largest ≡ coreAt s (num c) .largest)
+      × (d .largest ≡ coreAt s (num c) .largest) × (d .read ≡ p)
   unfolding mv.batchKept mv.foreignMark
-  kept-facts v k = (refl, refl, refl, refl, refl, refl, refl)
+  kept-facts v p k = (refl, refl, refl, refl, refl, refl, refl, refl)
 
   -- By whether room is still short.
-  by-room : (e v k x : ℕ) (b : Bool) → x ≡ shortfall (shapeOf f) 0 c (getD (sizesOf f c) (coreAt s (num c) .batch) 0) (st .queue .side c .own) v
+  by-room : (e v p k x : ℕ) (b : Bool) → ReadTo (listOf s (other c)) p (seen (load c (index 0 (other c)) e ∷ st .trace) c (index 0 (other c))) → x ≡ shortfall (shapeOf f) 0 c (getD (sizesOf f c) (coreAt s (num c) .batch) 0) (st .queue .side c .own) v
       → k ≡ know (ordersOf (orderBits f)) (load c (index 0 (other c)) e ∷ st .trace) c → st .queue .side c .phase ≡ reload
-      → newer (stores (st .trace) (index 0 (other c))) e (know (ordersOf (orderBits f)) (st .trace) c) ≡ false
-      → Joined f (mv.withCore s (num c) (cond b (mv.batchLost (coreAt s (num c)) v k x) (mv.batchKept (coreAt s (num c)) v k)) (mv.foreignMark b)) st xs
+      → outOfReach (ordersOf (orderBits f)) (st .trace) c (index 0 (other c)) e ≡ false
+      → Joined f (mv.withCore s (num c) (cond b (mv.batchLost (coreAt s (num c)) v p k x) (mv.batchKept (coreAt s (num c)) v p k)) (mv.foreignMark b)) st xs
       (decided (ordersOf (orderBits f)) c (st .queue) (st .trace) (cond b
       (pl.failBatch 0 c (st .queue) (getD (sizesOf f c) (coreAt s (num c) .batch) 0) (drop (coreAt s (num c) .batch + 1) (sizesOf f c)) e v)
       (pl.keepBatch 0 c (st .queue) (getD (sizesOf f c) (coreAt s (num c) .batch) 0) (drop (coreAt s (num c) .batch + 1) (sizesOf f c)) e v)))
-  by-room e v k x true ex ek ep new =
+  by-room e v p k x true read ex ek ep new =
       let a : Act = load c (index 0 (other c)) e in
-      let d : rc.Core = mv.batchLost (coreAt s (num c)) v k x in
-      let z = failed-facts v k x in
+      let d : rc.Core = mv.batchLost (coreAt s (num c)) v p k x in
+      let z = failed-facts v p k x in
       let me : Side = record { batches = drop (coreAt s (num c) .batch + 1) (sizesOf f c); phase = start; own = st .queue .side c .own; cached = v; moved = []; completed = st .queue .side c .completed } in
       let by : missed (shapeOf f) c (st .queue .side c .batches) me ≡ x = ap (λ (l : List ℕ). missed (shapeOf f) c l me) batches ∙ sym ex in
       let en : getD (sizesOf f c) (coreAt s (num c) .batch) 0 ≡ coreAt s (num c) .size = sym ((rw ep at (r .core-is c .sized)) .1) in
       rw (z .5, new) (
-      core-joined a batchFailed d _ _ refl (omega arith) refl (λ x. refl) (λ x y. no-slot x c y) (failed-core a v k x ek ep)
-      (omega arith) (feed-skips (getD (sizesOf f c) (coreAt s (num c) .batch) 0) d en (z .1) (z .2)) (omega arith) (omega arith) (omega arith)
+      core-joined a batchFailed d _ _ refl (omega arith) refl (λ x. refl) (λ x y. no-slot x c y) (failed-core a v p k x ek ep)
+      (omega arith) (feed-skips (getD (sizesOf f c) (coreAt s (num c) .batch) 0) d en (z .1) (z .2)) (omega arith) (omega arith) (omega arith) (rw (z .7) read)
       )
-  by-room e v k x false ex ek ep new =
+  by-room e v p k x false read ex ek ep new =
       let a : Act = load c (index 0 (other c)) e in
-      let d : rc.Core = mv.batchKept (coreAt s (num c)) v k in
-      let z = kept-facts v k in
+      let d : rc.Core = mv.batchKept (coreAt s (num c)) v p k in
+      let z = kept-facts v p k in
       rw (z .5, new) (
-      core-joined a foreignLoaded d _ _ refl (omega arith) refl (λ x. refl) (λ x y. no-slot x c y) (kept-core a v k ek ep)
-      (omega arith) (r .feed-is ∙ ap (λ (j : ℕ). drop j (pushBytes f)) (sym (feed-keeps (s .cores) (r .two-cores) c d (omega arith)))) (omega arith) (omega arith) (omega arith)
+      core-joined a foreignLoaded d _ _ refl (omega arith) refl (λ x. refl) (λ x y. no-slot x c y) (kept-core a v p k ek ep)
+      (omega arith) (r .feed-is ∙ ap (λ (j : ℕ). drop j (pushBytes f)) (sym (feed-keeps (s .cores) (r .two-cores) c d (omega arith)))) (omega arith) (omega arith) (omega arith) (rw (z .7) read)
       )
 
   pub foreign-joined : st .queue .side c .phase ≡ reload → (age : ℕ) → age < listOf s (other c) .count
-      → laterKnown (listOf s (other c) .entries) (placeOf (listOf s (other c)) age) (coreAt s (num c) .known) (listOf s (other c) .count) ≡ false
+      → states.outOfReach (listOf s (other c) .entries) (placeOf (listOf s (other c)) age) (coreAt s (num c) .known) (coreAt s (num c) .read) (listOf s (other c) .count) ≡ false
       → Joined f (mv.foreignLoad s (num c) age) st xs (step (shapeOf f) st (record { core = num c; age = age }))
-  foreign-joined ep age small seen =
+  foreign-joined ep age small reached =
       let q : Queue = st .queue in
       let t : Trace = st .trace in
       let e : ℕ = getD (listOf s (other c) .entries) (placeOf (listOf s (other c)) age) 0 in
@@ -389,13 +397,17 @@ module _ {f : List ℕ} (g : Good f) {s : Ring} {st : State} {xs : List Result} 
       let k : ℕ = know (ordersOf (orderBits f)) (load c (index 0 (other c)) e ∷ t) c in
       let n : ℕ = getD (sizesOf f c) (coreAt s (num c) .batch) 0 in
       let rest : List ℕ = drop (coreAt s (num c) .batch + 1) (sizesOf f c) in
-      let new : newer (stores t (index 0 (other c))) e (know (ordersOf (orderBits f)) t c) ≡ false =
-      ap (newer (stores t (index 0 (other c))) e) (sym (r .core-is c .known-is)) ∙ sym (walk-is (r .list-is (other c)) age (coreAt s (num c) .known) small) ∙ seen in
+      let p : ℕ = placeOf (listOf s (other c)) age in
+      let new : outOfReach (ordersOf (orderBits f)) t c (index 0 (other c)) e ≡ false =
+      sym (reach-is (r .list-is (other c)) (ordersOf (orderBits f)) c age (coreAt s (num c) .known) (coreAt s (num c) .read) small (r .core-is c .known-is) (r .read-is c)) ∙ reached in
+      let older = ltb-false e (seen t c (index 0 (other c))) (or-none (newer (stores t (index 0 (other c))) e (know (ordersOf (orderBits f)) t c)) (ltb e (seen t c (index 0 (other c)))) new .1) in
+      let read : ReadTo (listOf s (other c)) p (seen (load c (index 0 (other c)) e ∷ t) c (index 0 (other c))) =
+      record { inside = omega (arith, listed-some (r .list-is (other c))); entry-is = omega (arith, foreign-reads c e) } in
       let ex : step (shapeOf f) st (record { core = num c; age = age }) ≡ decided (ordersOf (orderBits f)) c q t (pl.foreignLoad (shapeOf f) 0 c q n rest e v) =
       step-is f st c age h ∙ ap (decided (ordersOf (orderBits f)) c q t)
       (ap (pl.ofBatches (shapeOf f) 0 c q t age) batches ∙ ap (pl.inBatch (shapeOf f) 0 c q t age n rest) ep
       ∙ ap (pl.foreignLoadOf (shapeOf f) 0 c q t n rest) (r .list-is (other c) .entry-is age small)) in
-      rw (foreign-ring age e v k small refl refl refl ep, ex) (by-room e v k (shortfall (shapeOf f) 0 c n (q .side c .own) v) (isShort (shapeOf f) 0 c n (q .side c .own) v) refl refl ep new)
+      rw (foreign-ring age e v p k refl small refl refl refl ep, ex) (by-room e v p k (shortfall (shapeOf f) 0 c n (q .side c .own) v) (isShort (shapeOf f) 0 c n (q .side c .own) v) read refl refl ep new)
 
   -- 4. The index store.
 
@@ -435,9 +447,9 @@ module _ {f : List ℕ} (g : Good f) {s : Ring} {st : State} {xs : List Result} 
   done-facts : let d = mv.completed (coreAt s (num c)) in
       (d .batch ≡ coreAt s (num c) .batch + 1) × (d .passed ≡ coreAt s (num c) .passed + coreAt s (num c) .size) × (d .moved ≡ 0)
       × (d .done ≡ coreAt s (num c) .done + coreAt s (num c) .size) × (d .failed ≡ coreAt s (num c) .failed)
-      × (d .largest ≡ coreAt s (num c) .largest)
+      × (d .largest ≡ coreAt s (num c) .largest) × (d .read ≡ coreAt s (num c) .read)
   unfolding mv.completed
-  done-facts = (refl, refl, refl, refl, refl, refl)
+  done-facts = (refl, refl, refl, refl, refl, refl, refl)
 
 -- The ring after core c's index store.
 abbrev stored : Ring → Core → (value entry : ℕ) → Ring
@@ -521,6 +533,11 @@ module _ {f : List ℕ} (g : Good f) {s : Ring} {st : State} {xs : List Result} 
           lists-new = both (λ (e : Core). Listed (modulusOf f) (a ∷ t) (index 0 e) (listOf s′ e)) c
               (rw (stored-mine s c v (next t)) (listed-new c v (mod-lt (q .side c .own + n) (omega (arith, g .ranges .modulus-low))) room (r .list-is c)))
               (rw (stored-other s c v (next t)) (listed-old a (not-theirs c v) (r .list-is (other c))));
+          read-new = rw (stored-other s c v (next t), z .6) (read-kept a t c (index 0 (other c)) refl (r .read-is c));
+          still-read = λ p e w. rw (stored-mine s c v (next t)) (record {
+            inside = omega (arith, w .inside);
+            entry-is = getD-set-other (listOf s c .entries) (listOf s c .count) p (next t) 0 (λ q. omega (arith, w .inside, q)) ∙ w .entry-is;
+          });
           few-new = rw (stored-mine s c v (next t)) (omega (arith, r .list-few c, z));
           few-other = ap (λ (l : Stores). l .count) (stored-other s c v (next t));
           bytes-new = r .bytes-are;

@@ -9,8 +9,8 @@ use lib.Dec.{eqb}
 use lib.ListN.{getD, set, length, drop, length-set}
 use borrow.Author.Tests.{ne-eqb, eqb-true}
 use Rattle.order.specs.Trace.{Core, core0, core1, other, index, Act, idle, next, who, storesTo}
-use Rattle.order.specs.computed.Record.{learn}
-use Rattle.order.proofs.Trace.{clash, or-false, and-false, and-with, same-other, same-self}
+use Rattle.order.specs.computed.Record.{learn, reads, seen}
+use Rattle.order.proofs.Trace.{clash, other-other, or-false, and-false, and-with, same-other, same-self}
 use Rattle.model.proofs.Sides.{with-same, with-other}
 use Rattle.model.specs.File.{ringSize, modulusOf, orderBits, pushBytes, ordersOf}
 use Rattle.model.specs.Marks.{batchFailed, raceFound, noSuchCore}
@@ -22,8 +22,8 @@ use Rattle.ring.specs.declared.state.Core as rc
 use Rattle.ring.specs.declared.state.Ring.{Ring}
 use Rattle.ring.specs.computed.State.{freshCore, coreAt}
 use Rattle.ring.proofs.Parts.{num}
-use Rattle.ring.proofs.Lists.{Listed, listed-old}
-use Rattle.ring.proofs.Rep.{listOf, CoreRep, Bytes, Lately, Rep, put-same, put-other, both, other-learns-nothing, core-kept, lately-kept, count-more, race-more, race-stays, length-more}
+use Rattle.ring.proofs.Lists.{Listed, listed-old, ReadTo}
+use Rattle.ring.proofs.Rep.{listOf, list-same, other-reads-nothing, read-kept, CoreRep, Bytes, Lately, Rep, put-same, put-other, both, other-learns-nothing, core-kept, lately-kept, count-more, race-more, race-stays, length-more}
 
 not-race : (s : Ring) (h : Bool) → h ≡ not (eqb (s .race) 0) → h ≡ false → s .race ≡ 0
 not-race s h e k = go (eqb (s .race) 0) refl
@@ -65,6 +65,7 @@ refused-kept {f} {s} {st} {xs} r n l =
       two-cores = r .two-cores;
       core-is = λ c. core-kept idle refl (r .core-is c);
       list-is = λ c. listed-old idle refl (r .list-is c);
+      read-is = λ c. read-kept idle (st .trace) c (index 0 (other c)) refl (r .read-is c);
       list-few = r .list-few;
       bytes-are = r .bytes-are;
       lately = λ h. lately-kept idle (λ c y. refl) (r .lately (sym same ∙ h));
@@ -93,6 +94,8 @@ pub record Moves (f : List ℕ) (s s′ : Ring) (st : State) (c : Core) (a : Act
   pub plain : mark < raceFound
   pub core-new : CoreRep f (a ∷ st .trace) c d me
   pub lists-new : (e : Core) → Listed (modulusOf f) (a ∷ st .trace) (index 0 e) (listOf s′ e)
+  pub read-new : ReadTo (listOf s′ (other c)) (d .read) (seen (a ∷ st .trace) c (index 0 (other c)))
+  pub still-read : (p e : ℕ) → ReadTo (listOf s c) p e → ReadTo (listOf s′ c) p e
   pub few-new : listOf s′ c .count ≤ 1 + d .batch
   pub few-other : listOf s′ (other c) .count ≡ listOf s (other c) .count
   pub bytes-new : Bytes (ringSize f) (s′ .slots) (q .slots)
@@ -126,6 +129,10 @@ moved-kept {f} {s} {s′} {st} {xs} {c} {a} {mark} {q} {d} {me} r h m =
           (rw (mine, my-side) (m .core-new))
           (rw (theirs, their-side) (core-kept a (other-learns-nothing a c (m .acts) (orderBits f)) (r .core-is (other c))));
       list-is = m .lists-new;
+      read-is = both (λ (e : Core). ReadTo (listOf s′ (other e)) (coreAt s′ (num e) .read) (seen (a ∷ st .trace) e (index 0 (other e)))) c
+          (rw mine (m .read-new))
+          (rw (theirs, other-other c) (read-kept a (st .trace) (other c) (index 0 c) (other-reads-nothing a c (m .acts) (index 0 c))
+          (m .still-read (coreAt s (num (other c)) .read) (seen (st .trace) (other c) (index 0 c)) (rw (other-other c) at (r .read-is (other c))))));
       list-few = both (λ (e : Core). listOf s′ e .count ≤ 1 + coreAt s′ (num e) .batch) c
           (rw mine (m .few-new)) (rw (theirs, m .few-other) (r .list-few (other c)));
       bytes-are = m .bytes-new;
@@ -159,16 +166,19 @@ moved-kept {f} {s} {s′} {st} {xs} {c} {a} {mark} {q} {d} {me} r h m =
 
 -- A race: the access joins the trace, the pair is noted, and nothing else changes.
 pub raced-kept : {f : List ℕ} {s s′ : Ring} {st : State} {xs : List Result} {c : Core} {a : Act} {i : ℕ}
-    → Rep f s st xs → st .halted ≡ false → who a ≡ some c → learn (ordersOf (orderBits f)) c a ≡ 0 → ((e : Core) → storesTo (index 0 e) a ≡ false)
+    → Rep f s st xs → st .halted ≡ false → who a ≡ some c → learn (ordersOf (orderBits f)) c a ≡ 0 → ((e : Core) → storesTo (index 0 e) a ≡ false) → reads c (index 0 (other c)) a ≡ 0
     → s′ .size ≡ s .size → s′ .modulus ≡ s .modulus → s′ .bits ≡ s .bits → s′ .slots ≡ s .slots → s′ .cores ≡ s .cores
     → s′ .back ≡ s .back → s′ .front ≡ s .front → s′ .race ≡ next (st .trace) → s′ .partner ≡ i
     → Rep f s′ (after st (raced a (st .queue) i)) (xs ++ (raced a (st .queue) i ∷ []))
-raced-kept {f} {s} {s′} {st} {xs} {c} {a} {i} r h acts learns stores e1 e2 e3 e4 e5 e6 e7 e8 e9 =
+raced-kept {f} {s} {s′} {st} {xs} {c} {a} {i} r h acts learns stores reads-none e1 e2 e3 e4 e5 e6 e7 e8 e9 =
     let x = raced a (st .queue) i in
     let race0 = no-race r h in
     let more = race-more 1 xs x (omega arith) (sym (r .race-is) ∙ race0) in
     let core : (e : Core) → coreAt s′ (num e) ≡ coreAt s (num e) = λ e. ap (λ l. getD l (num e) freshCore) e5 in
     let learns-not : (e : Core) → learn (ordersOf (orderBits f)) e a ≡ 0 = both (λ (e : Core). learn (ordersOf (orderBits f)) e a ≡ 0) c learns (other-learns-nothing a c acts (orderBits f)) in
+    let reads-not : (e : Core) → reads e (index 0 (other e)) a ≡ 0 = both (λ (e : Core). reads e (index 0 (other e)) a ≡ 0) c reads-none
+    (other-reads-nothing a c acts (index 0 (other (other c)))) in
+    let same-list : (e : Core) → listOf s′ e ≡ listOf s e = list-same s s′ e6 e7 in
     let c0 = core core0 in
     let c1 = core core1 in
     record {
@@ -179,6 +189,7 @@ raced-kept {f} {s} {s′} {st} {xs} {c} {a} {i} r h acts learns stores e1 e2 e3 
       two-cores = rw e5 (r .two-cores);
       core-is = λ e. rw (core e) (core-kept a (learns-not e) (r .core-is e));
       list-is = elim [ core0 ↦ rw e6 (listed-old a (stores core0) (r .list-is core0)) | core1 ↦ rw e7 (listed-old a (stores core1) (r .list-is core1)) ];
+      read-is = λ e. rw (core e, same-list (other e)) (read-kept a (st .trace) e (index 0 (other e)) (reads-not e) (r .read-is e));
       list-few = elim [ core0 ↦ rw (e6, core core0) (r .list-few core0) | core1 ↦ rw (e7, core core1) (r .list-few core1) ];
       bytes-are = rw e4 (r .bytes-are);
       lately = λ k. clash (cc);

@@ -129,6 +129,7 @@ fresh-rep {f} g = record {
     | core0 ↦ fresh-listed (modulusOf f) (omega (arith, g .ranges .modulus-low)) core0
     | core1 ↦ fresh-listed (modulusOf f) (omega (arith, g .ranges .modulus-low)) core1
   ];
+  read-is = elim [ core0 ↦ record { inside = omega arith; entry-is = refl } | core1 ↦ record { inside = omega arith; entry-is = refl } ];
   list-few = elim [ core0 ↦ omega arith | core1 ↦ omega arith ];
   bytes-are = record {
     slots-long = length-replicate 128 freshSlot;

@@ -8,8 +8,8 @@ use native.Mathlib.Omega.{arith}
 use lib.Dec.{eqb}
 use lib.ListN.{getD, set, length, take, drop, length-append}
 use lib.Seq.{getD-set-same, getD-set-other}
-use Rattle.order.specs.Trace.{Core, core0, core1, other, index, slot, Act, idle, load, store, Trace, who, accesses}
-use Rattle.order.specs.computed.Record.{know, learn, rival}
+use Rattle.order.specs.Trace.{Core, core0, core1, other, Place, index, slot, Act, idle, load, store, Trace, who, accesses}
+use Rattle.order.specs.computed.Record.{know, learn, reads, seen, rival}
 use Rattle.order.proofs.Trace.{clash}
 use Rattle.model.specs.File.{ringSize, modulusOf, orderBits, total, pushBytes, ordersOf}
 use Rattle.model.specs.Marks.{batchFailed, raceFound}
@@ -24,11 +24,16 @@ use Rattle.ring.specs.declared.state.Core as rc
 use Rattle.ring.specs.declared.state.Ring.{Ring}
 use Rattle.ring.specs.computed.State.{freshSlot, freshCore, coreAt, Short, Bounded}
 use Rattle.ring.proofs.Parts.{num, sizesOf, Good, sizes-few, size-small, phaseOf, progress}
-use Rattle.ring.proofs.Lists.{Listed, listed-some}
+use Rattle.ring.proofs.Lists.{Listed, listed-some, ReadTo}
 
 abbrev pub listOf : Ring → Core → Stores
 listOf s core0 = s .back
 listOf s core1 = s .front
+
+-- One core moves and no list: both lists are what they were.
+pub list-same : (s s′ : Ring) → s′ .back ≡ s .back → s′ .front ≡ s .front → (e : Core) → listOf s′ e ≡ listOf s e
+list-same s s′ p q core0 = p
+list-same s s′ p q core1 = q
 
 -- Past its own load a core has a batch, and holds its size.
 abbrev pub Sized : List ℕ → (batch size : ℕ) → Phase → Type 0
@@ -74,6 +79,7 @@ pub record Rep (f : List ℕ) (s : Ring) (st : State) (xs : List Result) : Type 
   pub two-cores : length (s .cores) ≡ 2
   pub core-is : (c : Core) → CoreRep f (st .trace) c (coreAt s (num c)) (st .queue .side c)
   pub list-is : (c : Core) → Listed (modulusOf f) (st .trace) (index 0 c) (listOf s c)
+  pub read-is : (c : Core) → ReadTo (listOf s (other c)) (coreAt s (num c) .read) (seen (st .trace) c (index 0 (other c)))
   pub list-few : (c : Core) → listOf s c .count ≤ 1 + coreAt s (num c) .batch
   pub bytes-are : Bytes (ringSize f) (s .slots) (st .queue .slots)
   pub lately : st .halted ≡ false → Lately (ringSize f) (st .trace) (s .slots)
@@ -132,6 +138,18 @@ other-learns-nothing (load core0 x s) core0 e n = refl
 other-learns-nothing (load core1 x s) core1 e n = refl
 other-learns-nothing (load core0 x s) core1 e n = clash (cc)
 other-learns-nothing (load core1 x s) core0 e n = clash (cc)
+
+pub other-reads-nothing : (a : Act) (c : Core) → who a ≡ some c → (x : Place) → reads (other c) x a ≡ 0
+other-reads-nothing idle c e x = refl
+other-reads-nothing (store d y v) c e x = refl
+other-reads-nothing (load core0 y s) core0 e x = refl
+other-reads-nothing (load core1 y s) core1 e x = refl
+other-reads-nothing (load core0 y s) core1 e x = clash (cc)
+other-reads-nothing (load core1 y s) core0 e x = clash (cc)
+
+-- An action by which the core reads nothing of a list.
+pub read-kept : (a : Act) (t : Trace) {l : Stores} {p : ℕ} (c : Core) (x : Place) → reads c x a ≡ 0 → ReadTo l p (seen t c x) → ReadTo l p (seen (a ∷ t) c x)
+read-kept a t c x e h = record { inside = h .inside; entry-is = omega (arith, h .entry-is) }
 
 -- A core that the action teaches nothing.
 pub core-kept : {f : List ℕ} (a : Act) {t : Trace} {c : Core} {d : rc.Core} {me : Side} → learn (ordersOf (orderBits f)) c a ≡ 0

@@ -10,7 +10,7 @@ use lib.Dec.{eqb, ltb, leb}
 use lib.ListN.{getD, length, drop, drop-of-length-le, getElem?}
 use borrow.Author.Tests.{lt-ltb, leb-true, leb-false, eqb-true, eqb-false, ne-eqb}
 use Rattle.order.specs.Trace.{Core, core0, core1, other, index, Trace, stores, valueOf}
-use Rattle.order.specs.computed.Record.{know, newer}
+use Rattle.order.specs.computed.Record as rec
 use Rattle.order.proofs.Trace.{clash}
 use Rattle.model.specs.File.{byteAt, orderBits, ordersOf}
 use Rattle.model.specs.Marks.{noSuchCore, isHalted, noBatchLeft, noAgeHere, pastInitial, storeHidden}
@@ -19,11 +19,11 @@ use Rattle.model.specs.Plan as pl
 use Rattle.model.specs.Run.{Result, refused, State, shapeOf}
 use Rattle.model.specs.computed.Machine.{decided, entered, step}
 use Rattle.ring.specs.declared.state.Ring.{Ring}
-use Rattle.ring.specs.computed.State.{placeOf, laterKnown, chosen, coreAt}
+use Rattle.ring.specs.computed.State.{placeOf, outOfReach, chosen, coreAt}
 use Rattle.ring.specs.computed.Refusal.{loadRefusal, refusalOf}
 use Rattle.ring.specs.computed.Run.{whoOf}
 use Rattle.ring.proofs.Parts.{num, sizesOf, Good, sizes-length, batches-cons, phaseOf}
-use Rattle.ring.proofs.Lists.{getElem-out, walk-is}
+use Rattle.ring.proofs.Lists.{getElem-out, reach-is}
 use Rattle.ring.proofs.Rep.{listOf, Rep}
 use Rattle.ring.proofs.Join.{chosen-other, step-is}
 
@@ -32,7 +32,7 @@ abbrev pub answer : List ℕ → Ring → (core age : ℕ) → ℕ
 answer f s core age = refusalOf core age (s .race) (byteAt f (6 + whoOf core)) (coreAt s (whoOf core)) (s .back) (s .front)
 
 -- Where it answers 0: the entry names core c, which has a batch in a machine that runs; only a foreign load has an age, within the list, of a
--- store that is not hidden.
+-- store within reach.
 pub record Goes (f : List ℕ) (s : Ring) (st : State) (core age : ℕ) : Type 0 where
   pub c : Core
   pub core-is : core ≡ num c
@@ -40,7 +40,7 @@ pub record Goes (f : List ℕ) (s : Ring) (st : State) (core age : ℕ) : Type 0
   pub running : st .halted ≡ false
   pub more : coreAt s (num c) .batch < length (sizesOf f c)
   pub aged : coreAt s (num c) .phase ≡ 1 → (age < listOf s (other c) .count)
-      × (laterKnown (listOf s (other c) .entries) (placeOf (listOf s (other c)) age) (coreAt s (num c) .known) (listOf s (other c) .count) ≡ false)
+      × (outOfReach (listOf s (other c) .entries) (placeOf (listOf s (other c)) age) (coreAt s (num c) .known) (coreAt s (num c) .read) (listOf s (other c) .count) ≡ false)
   pub ageless : ¬ (coreAt s (num c) .phase ≡ 1) → age ≡ 0
 
 -- The two ways it can go, as an answer n.
@@ -122,17 +122,17 @@ module _ {f : List ℕ} (g : Good f) {s : Ring} {st : State} {xs : List Result} 
       past-way ep l = load-way ep none (getElem-out (stores (st .trace) (index 0 (other c))) age (omega (arith, r .list-is (other c) .count-is)))
 
       hidden-way : st .queue .side c .phase ≡ reload → age < listOf s (other c) .count
-          → laterKnown (listOf s (other c) .entries) (placeOf (listOf s (other c)) age) (coreAt s (num c) .known) (listOf s (other c) .count) ≡ true
+          → outOfReach (listOf s (other c) .entries) (placeOf (listOf s (other c)) age) (coreAt s (num c) .known) (coreAt s (num c) .read) (listOf s (other c) .count) ≡ true
           → step (shapeOf f) st (record { core = num c; age = age }) ≡ refused (st .queue) storeHidden
-      hidden-way ep small seen =
+      hidden-way ep small reached =
           let t : Trace = st .trace in
           let e : ℕ = getD (listOf s (other c) .entries) (placeOf (listOf s (other c)) age) 0 in
           let n : ℕ = getD (sizesOf f c) (coreAt s (num c) .batch) 0 in
-          let new : newer (stores t (index 0 (other c))) e (know (ordersOf (orderBits f)) t c) ≡ true =
-          ap (newer (stores t (index 0 (other c))) e) (sym (r .core-is c .known-is)) ∙ sym (walk-is (r .list-is (other c)) age (coreAt s (num c) .known) small) ∙ seen in
+          let new : rec.outOfReach (ordersOf (orderBits f)) t c (index 0 (other c)) e ≡ true =
+          sym (reach-is (r .list-is (other c)) (ordersOf (orderBits f)) c age (coreAt s (num c) .known) (coreAt s (num c) .read) small (r .core-is c .known-is) (r .read-is c)) ∙ reached in
           load-way ep (some e) (r .list-is (other c) .entry-is age small) ∙ go (isShort (shapeOf f) 0 c n (st .queue .side c .own) (valueOf t e)) e n new
         where
-          go : (b : Bool) (e n : ℕ) → newer (stores (st .trace) (index 0 (other c))) e (know (ordersOf (orderBits f)) (st .trace) c) ≡ true
+          go : (b : Bool) (e n : ℕ) → rec.outOfReach (ordersOf (orderBits f)) (st .trace) c (index 0 (other c)) e ≡ true
               → decided (ordersOf (orderBits f)) c (st .queue) (st .trace) (cond b
               (pl.failBatch 0 c (st .queue) n (drop (coreAt s (num c) .batch + 1) (sizesOf f c)) e (valueOf (st .trace) e))
               (pl.keepBatch 0 c (st .queue) n (drop (coreAt s (num c) .batch + 1) (sizesOf f c)) e (valueOf (st .trace) e)))
@@ -143,15 +143,15 @@ module _ {f : List ℕ} (g : Good f) {s : Ring} {st : State} {xs : List Result} 
 -- The same, for an entry that names core c, by the code's own tests.
 module _ {f : List ℕ} (g : Good f) {s : Ring} {st : State} {xs : List Result} (r : Rep f s st xs) (c : Core) (age : ℕ) where
   theirs-way : st .halted ≡ false → coreAt s (num c) .batch < length (sizesOf f c) → coreAt s (num c) .phase ≡ 1
-      → Way f s st (num c) age (loadRefusal age (coreAt s (num c) .known) (listOf s (other c)))
+      → Way f s st (num c) age (loadRefusal age (coreAt s (num c) .known) (coreAt s (num c) .read) (listOf s (other c)))
   unfolding loadRefusal
-  theirs-way h more one = go (leb (listOf s (other c) .count) age) (laterKnown (listOf s (other c) .entries) (placeOf (listOf s (other c)) age) (coreAt s (num c) .known) (listOf s (other c) .count)) refl refl
+  theirs-way h more one = go (leb (listOf s (other c) .count) age) (outOfReach (listOf s (other c) .entries) (placeOf (listOf s (other c)) age) (coreAt s (num c) .known) (coreAt s (num c) .read) (listOf s (other c) .count)) refl refl
     where
       ep : st .queue .side c .phase ≡ reload
       ep = phase-reload (coreAt s (num c) .size) (st .queue .side c .phase) (sym (r .core-is c .phase-is) ∙ one)
 
       go : (x y : Bool) → leb (listOf s (other c) .count) age ≡ x
-          → laterKnown (listOf s (other c) .entries) (placeOf (listOf s (other c)) age) (coreAt s (num c) .known) (listOf s (other c) .count) ≡ y
+          → outOfReach (listOf s (other c) .entries) (placeOf (listOf s (other c)) age) (coreAt s (num c) .known) (coreAt s (num c) .read) (listOf s (other c) .count) ≡ y
           → Way f s st (num c) age (cond x 133 (cond y 134 0))
       go true y p q = inl (past-way g r c age h more ep (leb-true (listOf s (other c) .count) age p), omega arith)
       go false true p q = inl (hidden-way g r c age h more ep (leb-false (listOf s (other c) .count) age p) q, omega arith)
@@ -170,13 +170,13 @@ module _ {f : List ℕ} (g : Good f) {s : Ring} {st : State} {xs : List Result} 
 
   core-way : Way f s st (num c) age (cond (eqb (s .race) 0)
       (cond (leb (byteAt f (6 + num c)) (coreAt s (num c) .batch)) 131
-      (cond (eqb (coreAt s (num c) .phase) 1) (loadRefusal age (coreAt s (num c) .known) (listOf s (other c))) (cond (eqb age 0) 0 132)))
+      (cond (eqb (coreAt s (num c) .phase) 1) (loadRefusal age (coreAt s (num c) .known) (coreAt s (num c) .read) (listOf s (other c))) (cond (eqb age 0) 0 132)))
       130)
   core-way = race (eqb (s .race) 0) refl
     where
       moves : st .halted ≡ false → (b : Bool) → leb (byteAt f (6 + num c)) (coreAt s (num c) .batch) ≡ b
           → Way f s st (num c) age (cond b 131
-          (cond (eqb (coreAt s (num c) .phase) 1) (loadRefusal age (coreAt s (num c) .known) (listOf s (other c))) (cond (eqb age 0) 0 132)))
+          (cond (eqb (coreAt s (num c) .phase) 1) (loadRefusal age (coreAt s (num c) .known) (coreAt s (num c) .read) (listOf s (other c))) (cond (eqb age 0) 0 132)))
       moves h true e = inl (no-batch-way g r c age h (omega (arith, sizes-length g c, leb-true (byteAt f (6 + num c)) (coreAt s (num c) .batch) e)), omega arith)
       moves h false e = phase (eqb (coreAt s (num c) .phase) 1) refl
         where
@@ -184,7 +184,7 @@ module _ {f : List ℕ} (g : Good f) {s : Ring} {st : State} {xs : List Result} 
           more = omega (arith, sizes-length g c, leb-false (byteAt f (6 + num c)) (coreAt s (num c) .batch) e)
 
           phase : (b : Bool) → eqb (coreAt s (num c) .phase) 1 ≡ b
-              → Way f s st (num c) age (cond b (loadRefusal age (coreAt s (num c) .known) (listOf s (other c))) (cond (eqb age 0) 0 132))
+              → Way f s st (num c) age (cond b (loadRefusal age (coreAt s (num c) .known) (coreAt s (num c) .read) (listOf s (other c))) (cond (eqb age 0) 0 132))
           phase true k = theirs-way h more (eqb-true (coreAt s (num c) .phase) 1 k)
           phase false k = aged (eqb age 0) refl
             where
@@ -206,7 +206,7 @@ module _ {f : List ℕ} (g : Good f) {s : Ring} {st : State} {xs : List Result} 
       race : (b : Bool) → eqb (s .race) 0 ≡ b
           → Way f s st (num c) age (cond b
           (cond (leb (byteAt f (6 + num c)) (coreAt s (num c) .batch)) 131
-          (cond (eqb (coreAt s (num c) .phase) 1) (loadRefusal age (coreAt s (num c) .known) (listOf s (other c))) (cond (eqb age 0) 0 132)))
+          (cond (eqb (coreAt s (num c) .phase) 1) (loadRefusal age (coreAt s (num c) .known) (coreAt s (num c) .read) (listOf s (other c))) (cond (eqb age 0) 0 132)))
           130)
       race true e = moves (r .halted-is ∙ ap not e) (leb (byteAt f (6 + num c)) (coreAt s (num c) .batch)) refl
       race false e = inl (halted-way g r c age (r .halted-is ∙ ap not e), omega arith)

@@ -43,7 +43,7 @@ impl Ring {
             read.value,
         );
         let known = learnt(syncs(self.bits, who), c.known, read.entry);
-        cores[who] = c.foreign_loaded(read.value, known, missing);
+        cores[who] = c.foreign_loaded(read.value, read.place, known, missing);
         self.cores = cores;
         self.mark = foreign_mark(0 < missing);
         self
@@ -108,11 +108,12 @@ impl Core {
     }
 
     // The core with the foreign index loaded: its batch goes on, or has failed by what is missing.
-    fn foreign_loaded(mut self, value: u16, known: u16, missing: u16) -> Self
+    fn foreign_loaded(mut self, value: u16, place: u16, known: u16, missing: u16) -> Self
         requires { ⌜ Bounded self ⌝ }
-        ensures { λ next. ⌜ next ≡ foreignLoaded self value known missing ⌝ }
+        ensures { λ next. ⌜ next ≡ foreignLoaded self value place known missing ⌝ }
     {
         self.cached = value;
+        self.read = place;
         self.known = known;
         if 0 < missing {
             self.phase = 0;

@@ -34,22 +34,22 @@ pub(crate) fn refusal(
         return 0;
     }
     if core == 0 {
-        return load_refusal(age, c.known, front);
+        return load_refusal(age, c.known, c.read, front);
     }
-    load_refusal(age, c.known, back)
+    load_refusal(age, c.known, c.read, back)
 }
 
-// Why a foreign load is refused: there is no such store, or it is hidden.
-fn load_refusal(age: u8, known: u16, theirs: Stores) -> u8
+// Why a foreign load is refused: there is no such store, or it is out of the core's reach.
+fn load_refusal(age: u8, known: u16, read: u16, theirs: Stores) -> u8
     requires { ⌜ Short theirs ⌝ }
-    ensures { λ r. ⌜ r ≡ loadRefusal age known theirs ⌝ }
+    ensures { λ r. ⌜ r ≡ loadRefusal age known read theirs ⌝ }
 {
     let a = age as usize;
     let n = theirs.count as usize;
     if n <= a {
         return 133;
     }
-    if theirs.hides(n - 1 - a, known) {
+    if theirs.hides(n - 1 - a, known, read) {
         return 134;
     }
     0

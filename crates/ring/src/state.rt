@@ -9,10 +9,11 @@ pub(crate) struct Slot {
     pub(crate) loaded: u16,
 }
 
-// A store of an index: its value, and the entry that made it.
+// A store of an index: its value, the entry that made it, and its place in the list.
 pub(crate) struct Store {
     pub(crate) value: u16,
     pub(crate) entry: u16,
+    pub(crate) place: u16,
 }
 
 // The stores of one index, oldest first: the values, the entries that stored them, and how many there are.
@@ -23,8 +24,8 @@ pub(crate) struct Stores {
 }
 
 // One core. Where it stands: its phase (0 own load, 1 foreign load, 2 data access, 3 index store), the number of its batch, that batch's
-// size, and the bytes of it that are moved. What it holds: its own index as loaded last, the cached foreign index, and its record of the
-// other core. What it has behind it: the bytes of its past batches and of its completed ones, its failed batches, and their largest shortfall.
+// size, and the bytes of it that are moved. What it holds: its own index as loaded last, the cached foreign index, its record of the other
+// core, and the latest place that it has read in the list of the foreign index. What it has behind it: the bytes of its past batches and of its completed ones, its failed batches, and their largest shortfall.
 pub(crate) struct Core {
     pub(crate) phase: u16,
     pub(crate) batch: u16,
@@ -33,6 +34,7 @@ pub(crate) struct Core {
     pub(crate) own: u16,
     pub(crate) cached: u16,
     pub(crate) known: u16,
+    pub(crate) read: u16,
     pub(crate) passed: u16,
     pub(crate) done: u16,
     pub(crate) failed: u16,
@@ -98,6 +100,7 @@ impl Ring {
             own: 0,
             cached: 0,
             known: 0,
+            read: 0,
             passed: 0,
             done: 0,
             failed: 0,

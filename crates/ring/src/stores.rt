@@ -4,7 +4,7 @@ use crate::state::Store;
 use crate::state::Stores;
 ghost use mathlib.Core.Path.{_≡_};
 ghost use Prim.Native.Nat.{_<_, _≤_};
-ghost use Rattle.ring.specs.computed.State.{freshStores, pushed, storeAt, newestOf, laterKnown};
+ghost use Rattle.ring.specs.computed.State.{freshStores, pushed, storeAt, newestOf, outOfReach};
 
 impl Stores {
     // The initial store alone.
@@ -45,6 +45,7 @@ impl Stores {
         Store {
             value: values[place],
             entry: entries[place],
+            place: place as u16,
         }
     }
 
@@ -58,14 +59,14 @@ impl Stores {
         values[place]
     }
 
-    // Is a store hidden: has one later than its place an entry within the core's record?
-    pub(crate) fn hides(self, place: usize, known: u16) -> bool
+    // Is a store hidden from a core: has the core read one later than its place, or has such a one an entry within the core's record?
+    pub(crate) fn hides(self, place: usize, known: u16, read: u16) -> bool
         requires { ⌜ self .count ≤ 256 ⌝ }
-        ensures { λ r. ⌜ r ≡ laterKnown (self .entries) place known (self .count) ⌝ }
+        ensures { λ r. ⌜ r ≡ outOfReach (self .entries) place known read (self .count) ⌝ }
     {
         let entries = self.entries;
         let n = self.count as usize;
-        let mut found = false;
+        let mut found = place < read as usize;
         let mut j: usize = 0;
         while j < n {
             if place < j {

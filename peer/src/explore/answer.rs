@@ -1,6 +1,7 @@
 //! The library's own answer to a run file, and what is promised of it (docs/PROMISES.md), with nothing of the peer's machine.
 
 use super::failed::{failed, Failed};
+use super::reads::goes_back;
 use crate::file::{RunFile, MOST_ORDERS, REPORT_BYTES};
 use crate::library;
 use crate::machine::{performed, refused, report, CONSUMER, PRODUCER};
@@ -143,6 +144,10 @@ impl Answer {
                 bytes.starts_with(&self.out),
                 "out is the first bytes of the completed pushes",
             ),
+            (
+                !goes_back(&self.marks, schedule),
+                "no core reads an older store of an index after a newer one",
+            ),
         ])
         .or_else(|| self.broken_shortfall(file, schedule))
     }
@@ -245,6 +250,20 @@ mod tests {
         word(broken_by(3, 1), "more than its size");
         word(broken_by(2, 1), "largest");
         word(broken_by(1, 2), "lacks bytes");
+    }
+
+    #[test]
+    fn a_core_that_goes_back_breaks_a_promise() {
+        let (mut file, mut schedule, mut answer) = worked_failing();
+        file.sizes = [vec![0], vec![2, 2]];
+        file.bytes.clear();
+        schedule.extend([1, 0, 1, 0, 1, 0, 1, 1]);
+        answer.marks = vec![1, 6, 1, 3, 1, 3];
+        answer.numbers = vec![6, 0, 0, 0, 0, 0, 0, 2, 0, 0, 0, 2];
+        let broken = answer.broken(&file, &schedule);
+        assert!(broken.unwrap().contains("after a newer one"));
+        schedule[11] = 0;
+        assert_eq!(answer.broken(&file, &schedule), None);
     }
 
     #[test]

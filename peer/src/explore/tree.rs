@@ -1,8 +1,9 @@
 //! Every schedule of one run file: a tree that grows by every entry and stops where the state is one already seen.
 
 use super::answer::{ask, Answer};
-use crate::file::{Entry, RunFile};
-use crate::machine::{performed, report, Machine};
+use crate::actions::Hidden;
+use crate::file::{Entry, RunFile, MOST_ORDERS};
+use crate::machine::{performed, refused, report, Machine};
 use std::collections::HashMap;
 use std::fmt;
 
@@ -18,6 +19,8 @@ pub struct Looked {
     pub races: u64,
     /// Performed entries that made a batch fail.
     pub failed: u64,
+    /// Refused entries whose store coherence alone hides.
+    pub coherence: u64,
     /// Schedules of performed entries, to their ends, that the tree stands for.
     pub stands_for: f64,
 }
@@ -29,6 +32,7 @@ impl Looked {
         self.entries += more.entries;
         self.races += more.races;
         self.failed += more.failed;
+        self.coherence += more.coherence;
         self.stands_for += more.stands_for;
     }
 }
@@ -41,11 +45,13 @@ impl fmt::Display for Looked {
             entries,
             races,
             failed,
+            coherence,
             stands_for,
         } = self;
         write!(
             to,
-            "{states} states, {schedules} schedules played with {entries} entries, {races} races, {failed} failed batches; for {stands_for:.1e} whole schedules"
+            "{states} states, {schedules} schedules played with {entries} entries, {races} races, {failed} failed batches, \
+            {coherence} loads refused by coherence alone; for {stands_for:.1e} whole schedules"
         )
     }
 }
@@ -75,6 +81,16 @@ const ORDERS: usize = 5;
 fn synchronising(orders: u8) -> u8 {
     let pair = |bits| if orders & bits == bits { bits } else { 0 };
     pair(0b0110) | pair(0b1001)
+}
+
+/// The peer's answer where its machine has come so far with these marks.
+fn answered(machine: &Machine, marks: Vec<u8>) -> Answer {
+    Answer {
+        code: 0,
+        marks,
+        out: machine.out().to_vec(),
+        numbers: machine.numbers().to_vec(),
+    }
 }
 
 /// What went wrong, and the schedule's bytes at that moment.
@@ -139,14 +155,11 @@ impl<'f> Tree<'f> {
         let answer = ask(&mut self.bytes, marks.len(), self.out);
         self.looked.schedules += 1;
         self.looked.entries += marks.len() as u64;
-        let here = Answer {
-            code: 0,
-            marks: marks.to_vec(),
-            out: machine.out().to_vec(),
-            numbers: machine.numbers().to_vec(),
-        };
-        if answer != here {
+        if answer != answered(machine, marks.to_vec()) {
             return Err(self.wrong("the peer's answer is another"));
+        }
+        if self.file.orders == MOST_ORDERS && answer != self.without_coherence() {
+            return Err(self.wrong("with strong orders, the answer without coherence is another"));
         }
         if !self.same_under(synchronising(self.file.orders), &answer) {
             return Err(self.wrong("another setting that synchronises alike gives another answer"));
@@ -155,6 +168,21 @@ impl<'f> Tree<'f> {
         broken.map_or(Ok(answer), |sentence| {
             Err(self.wrong(&format!("not so: {sentence}")))
         })
+    }
+
+    /// What the peer answers to the schedule of the moment where axiom 2 alone hides stores.
+    fn without_coherence(&self) -> Answer {
+        let mut machine = Machine::without_coherence(self.file);
+        let entries = self.bytes[self.head..].chunks(2);
+        let marks = entries
+            .map(|pair| {
+                machine.play(Entry {
+                    core: pair[0],
+                    age: pair[1],
+                })
+            })
+            .collect();
+        answered(&machine, marks)
     }
 
     /// Whether the library answers the same under other order bits.
@@ -184,6 +212,7 @@ impl<'f> Tree<'f> {
                 mark => performed.push((entry, mark, after)),
             }
         }
+        self.looked.coherence += by_coherence_alone(machine, &refused);
         let mut schedules = if performed.is_empty() { 1.0 } else { 0.0 };
         if performed.is_empty() {
             self.refused_first(machine, &refused, None, marks)?;
@@ -229,6 +258,13 @@ impl<'f> Tree<'f> {
         self.cut(marks.len() - before);
         Ok(answer)
     }
+}
+
+/// How many of the refused entries load a store that coherence alone hides.
+fn by_coherence_alone(machine: &Machine, refused: &[(Entry, u8)]) -> u64 {
+    let hidden = refused.iter().filter(|(_, mark)| *mark == refused::HIDDEN);
+    let by = hidden.filter_map(|(entry, _)| machine.hidden(usize::from(entry.core), entry.age));
+    by.filter(Hidden::by_coherence_alone).count() as u64
 }
 
 /// An answer as it must be where refused entries stand before its last: their marks and their number more, a race so

@@ -86,6 +86,8 @@ mod tests {
             [vec![1, 0, 1], vec![0, 1, 1]],
             // Pops that fail by 1 or by 2.
             [vec![1], vec![2, 2, 1]],
+            // Stores of one value, so that only their places tell which was read.
+            [vec![0, 0], vec![2, 2]],
         ];
         for (orders, sizes) in [0, 6, 9, 15]
             .into_iter()

@@ -4,9 +4,9 @@ use mathlib.Core.Option.{Option, none, some}
 use mathlib.Core.List.{List, [], _∷_}
 use Prim.Native.Nat.{ℕ}
 use lib.Dec.{ltb}
-use Rattle.order.specs.Trace.{Core, load, Trace, stores, isStore}
+use Rattle.order.specs.Trace.{Core, load, Trace, isStore}
 use Rattle.order.specs.Order.{Orders}
-use Rattle.order.specs.computed.Record.{know, newer, rival}
+use Rattle.order.specs.computed.Record.{know, outOfReach, rival}
 use Rattle.model.specs.File.{Entry}
 use Rattle.model.specs.Marks.{noSuchCore, isHalted, storeHidden}
 use Rattle.model.specs.Queue.{Shape, Queue}
@@ -16,7 +16,7 @@ use Rattle.model.specs.Run.{Result, refused, performed, raced, State, af
 abbrev pub decided : Orders → Core → Queue → Trace → Plan → Result
 decided o c q t (refuse n) = refused q n
 decided o c q t (perform n a z) = performed n a z
-decided o c q t (unless-hidden x s n z) = cond (newer (stores t x) s (know o t c)) (refused q storeHidden) (performed n (load c x s) z)
+decided o c q t (unless-hidden x s n z) = cond (outOfReach o t c x s) (refused q storeHidden) (performed n (load c x s) z)
 decided o c q t (unless-race x a n z) =
     cond (ltb (know o t c) (rival t c x (isStore a))) (raced a q (rival t c x (isStore a))) (performed n a z)
 

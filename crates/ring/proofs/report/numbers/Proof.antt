@@ -42,7 +42,7 @@ cast-t18 : tie.Need-cast-t18
 cast-t18 c = search needs
 
 cast-t19 : tie.Need-cast-t19
-cast-t19 c = search needs
+cast-t19 c = omega (arith, c .struct-known6 .given)
 
 cast-t20 : tie.Need-cast-t20
 cast-t20 c = omega (arith, c .struct-known7 .given)

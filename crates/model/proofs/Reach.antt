@@ -1,0 +1,94 @@
+-- Mark 134 is given exactly where the store to be read is out of reach; with age 0 it never is.
+use mathlib.Core.Path.{_≡_}
+use mathlib.Core.Logic.{_↔_, inl, inr}
+use mathlib.Core.Bool.{Bool, true, false}
+use mathlib.Core.Option.{Option, none, some}
+use mathlib.Core.List.{List}
+use Prim.Native.Nat.{ℕ}
+use native.Mathlib.Omega.{arith}
+use Rattle.order.specs.Trace.{Core, other, Ring, index, Trace, stores}
+use Rattle.order.specs.Order.{Orders}
+use Rattle.order.specs.Reads.{OutOfReach}
+use Rattle.order.proofs.Trace.{getElem-getD}
+use Rattle.order.proofs.Chain.{Formed}
+use Rattle.order.proofs.Coherence.{latest-in-reach}
+use Rattle.model.specs.File.{Entry}
+use Rattle.model.specs.Marks.{ownLoaded, foreignLoaded, batchFailed, dataStored, dataLoaded, indexStored, raceFound, noSuchCore, isHalted, noBatchLeft, noAgeHere, pastInitial, storeHidden}
+use Rattle.model.specs.Queue.{Shape, Queue}
+use Rattle.model.specs.Plan.{Plan, refuse, perform, unless-hidden, unless-race, plan}
+use Rattle.model.specs.Run.{Result, Does, State, coreOf, theRing, Entered, Step, Runs, shapeOf, fresh}
+use Rattle.model.proofs.Plan.{Planned, no-batch, no-age, past, owning, failing, keeping, storing, loading, completing, planned}
+use Rattle.model.proofs.Formed.{run-formed}
+
+-- The plan is to read a store that is out of reach.
+abbrev pub Barred : Orders → Trace → Core → Plan → Type 0
+Barred o t c (refuse n) = ⊥
+Barred o t c (perform n a z) = ⊥
+Barred o t c (unless-hidden x s n z) = OutOfReach o t c x s
+Barred o t c (unless-race x a n z) = ⊥
+
+-- The entry is of one of the two cores, the machine has not halted, and the core's plan is to read a store that is out of reach.
+abbrev pub BarredEntry : Shape → State → ℕ → Option Core → Bool → Type 0
+BarredEntry g s age none h = ⊥
+BarredEntry g s age (some c) true = ⊥
+BarredEntry g s age (some c) false = Barred (g .orders) (s .trace) c (plan g theRing c (s .queue) (s .trace) age)
+
+-- A mark but this one, where nothing is out of reach.
+in-reach : {A : Type 0} (x : Result) (n : ℕ) → x .mark ≡ n → ¬ (n ≡ storeHidden) → ¬ A → (x .mark ≡ storeHidden) ↔ A
+in-reach x n e k a = (λ h. absurd (k (cc)), λ h. absurd (a h))
+
+module _ (g : Shape) (r : Ring) (c : Core) (q : Queue) (t : Trace) where
+  does-exactly : (o : Orders) {age : ℕ} {p : Plan} → Planned g r c q t age p → (x : Result) → Does o c q t p x
+      → (x .mark ≡ storeHidden) ↔ Barred o t c p
+  does-exactly o (no-batch e) x d = in-reach x noBatchLeft (rw d) (omega arith) (λ h. h)
+  does-exactly o no-age x d = in-reach x noAgeHere (rw d) (omega arith) (λ h. h)
+  does-exactly o past x d = in-reach x pastInitial (rw d) (omega arith) (λ h. h)
+  does-exactly o (owning n rest eb ep) x d = in-reach x ownLoaded (rw d) (omega arith) (λ h. h)
+  does-exactly o (failing n rest s eb ep e h) x (inl d) = (λ k. d .0, λ k. rw (d .1))
+  does-exactly o (failing n rest s eb ep e h) x (inr d) = in-reach x batchFailed (rw (d .1)) (omega arith) (d .0)
+  does-exactly o (keeping n rest s eb ep e h) x (inl d) = (λ k. d .0, λ k. rw (d .1))
+  does-exactly o (keeping n rest s eb ep e h) x (inr d) = in-reach x foreignLoaded (rw (d .1)) (omega arith) (d .0)
+  does-exactly o (storing n rest i eb ep l k) x (inl d) = in-reach x raceFound (rw (d .2)) (omega arith) (λ h. h)
+  does-exactly o (storing n rest i eb ep l k) x (inr d) = in-reach x dataStored (rw (d .1)) (omega arith) (λ h. h)
+  does-exactly o (loading n rest i eb ep l k) x (inl d) = in-reach x raceFound (rw (d .2)) (omega arith) (λ h. h)
+  does-exactly o (loading n rest i eb ep l k) x (inr d) = in-reach x dataLoaded (rw (d .1)) (omega arith) (λ h. h)
+  does-exactly o (completing n rest i eb ep l) x d = in-reach x indexStored (rw d) (omega arith) (λ h. h)
+
+  -- With age 0 the plan is to read the newest store, and that is never out of reach.
+  planned-newest : (o : Orders) → Formed t → {p : Plan} → Planned g r c q t 0 p → ¬ Barred o t c p
+  planned-newest o f (no-batch e) h = h
+  planned-newest o f no-age h = h
+  planned-newest o f past h = h
+  planned-newest o f (owning n rest eb ep) h = h
+  planned-newest o f (failing n rest s eb ep e k) h =
+      latest-in-reach o t f c (index r (other c)) (rw (getElem-getD (stores t (index r (other c))) 0 s e) h)
+  planned-newest o f (keeping n rest s eb ep e k) h =
+      latest-in-reach o t f c (index r (other c)) (rw (getElem-getD (stores t (index r (other c))) 0 s e) h)
+  planned-newest o f (storing n rest i eb ep l k) h = h
+  planned-newest o f (loading n rest i eb ep l k) h = h
+  planned-newest o f (completing n rest i eb ep l) h = h
+
+entered-exactly : (g : Shape) (s : State) (age : ℕ) (c : Option Core) (h : Bool) (x : Result) → Entered g s age c h x
+    → (x .mark ≡ storeHidden) ↔ BarredEntry g s age c h
+entered-exactly g s age none h x d = in-reach x noSuchCore (rw d) (omega arith) (λ k. k)
+entered-exactly g s age (some c) true x d = in-reach x isHalted (rw d) (omega arith) (λ k. k)
+entered-exactly g s age (some c) false x d =
+    does-exactly g theRing c (s .queue) (s .trace) (g .orders) (planned g theRing c (s .queue) (s .trace) age) x d
+
+-- MARK 134 is given exactly where the core's plan is to read a store that is out of reach.
+pub out-of-reach-exactly : (g : Shape) (s : State) (e : Entry) (x : Result) → Step g s e x
+    → (x .mark ≡ storeHidden) ↔ BarredEntry g s (e .age) (coreOf (e .core)) (s .halted)
+out-of-reach-exactly g s e x d = entered-exactly g s (e .age) (coreOf (e .core)) (s .halted) x d
+
+entered-newest : (g : Shape) (s : State) (c : Option Core) (h : Bool) → Formed (s .trace) → ¬ BarredEntry g s 0 c h
+entered-newest g s none h f k = k
+entered-newest g s (some c) true f k = k
+entered-newest g s (some c) false f k =
+    planned-newest g theRing c (s .queue) (s .trace) (g .orders) f (planned g theRing c (s .queue) (s .trace) 0) k
+
+-- THE NEWEST STORE IS NEVER REFUSED: after any run an entry with age 0 does not get mark 134.
+pub newest-never-refused : (f : List ℕ) {es : List Entry} {xs : List Result} {s : State} → Runs (shapeOf f) (fresh f) es xs s
+    → (e : Entry) (x : Result) → e .age ≡ 0 → Step (shapeOf f) s e x → ¬ (x .mark ≡ storeHidden)
+newest-never-refused f {s = s} run e x young d k =
+    let b = out-of-reach-exactly (shapeOf f) s e x d .0 k in
+    entered-newest (shapeOf f) s (coreOf (e .core)) (s .halted) (run-formed tt run) (rw young at b)
