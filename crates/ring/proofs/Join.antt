@@ -135,11 +135,8 @@ module _ {f : List ℕ} (g : Good f) {s : Ring} {st : State} {xs : List Result} 
       let same = list-same s s′ refl refl in
       record {
         rep = moved-kept r h (record {
-          size-same = refl;
-          modulus-same = refl;
-          bits-same = refl;
-          race-same = no-race r h;
-          partner-same = partner-none r h;
+          shape-same = (refl, refl, refl);
+          unraced = (no-race r h, partner-none r h);
           cores-are = refl;
           sides-are = refl;
           acts = acts;
@@ -520,11 +517,8 @@ module _ {f : List ℕ} (g : Good f) {s : Ring} {st : State} {xs : List Result} 
       let room : listOf s c .count < 256 = omega (arith, r .list-few c, sizes-few g c) in
       rw (store-ring v refl, ex) (record {
         rep = moved-kept r h (record {
-          size-same = refl;
-          modulus-same = refl;
-          bits-same = refl;
-          race-same = no-race r h;
-          partner-same = partner-none r h;
+          shape-same = (refl, refl, refl);
+          unraced = (no-race r h, partner-none r h);
           cores-are = refl;
           sides-are = refl;
           acts = refl;

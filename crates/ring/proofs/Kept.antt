@@ -83,11 +83,8 @@ refused-kept {f} {s} {st} {xs} r n l =
 
 -- A move of core c that does not race: what is new after it.
 pub record Moves (f : List ℕ) (s s′ : Ring) (st : State) (c : Core) (a : Act) (mark : ℕ) (q : Queue) (d : rc.Core) (me : Side) : Type 0 where
-  pub size-same : s′ .size ≡ s .size
-  pub modulus-same : s′ .modulus ≡ s .modulus
-  pub bits-same : s′ .bits ≡ s .bits
-  pub race-same : s′ .race ≡ 0
-  pub partner-same : s′ .partner ≡ 0
+  pub shape-same : (s′ .size ≡ s .size) × (s′ .modulus ≡ s .modulus) × (s′ .bits ≡ s .bits)
+  pub unraced : (s′ .race ≡ 0) × (s′ .partner ≡ 0)
   pub cores-are : s′ .cores ≡ set (s .cores) (num c) d
   pub sides-are : q .side ≡ withSide (st .queue .side) c me
   pub acts : who a ≡ some c
@@ -120,10 +117,10 @@ moved-kept {f} {s} {s′} {st} {xs} {c} {a} {mark} {q} {d} {me} r h m =
     let their-side : q .side (other c) ≡ st .queue .side (other c) = ap (λ (w : Core → Side). w (other c)) (m .sides-are) ∙ with-other (st .queue .side) c me in
     let partner0 = sym (partner-none r h) ∙ r .partner-is in
     record {
-      size-is = m .size-same ∙ r .size-is;
-      modulus-is = m .modulus-same ∙ r .modulus-is;
-      bits-are = m .bits-same ∙ r .bits-are;
-      halted-is = running ∙ rw (m .race-same) refl;
+      size-is = m .shape-same .0 ∙ r .size-is;
+      modulus-is = m .shape-same .1 ∙ r .modulus-is;
+      bits-are = m .shape-same .2 ∙ r .bits-are;
+      halted-is = running ∙ rw (m .unraced .0) refl;
       two-cores = ap length (m .cores-are) ∙ length-set (s .cores) (num c) d ∙ r .two-cores;
       core-is = both (λ (e : Core). CoreRep f (a ∷ st .trace) e (coreAt s′ (num e)) (q .side e)) c
           (rw (mine, my-side) (m .core-new))
@@ -159,8 +156,8 @@ moved-kept {f} {s} {s′} {st} {xs} {c} {a} {mark} {q} {d} {me} r h m =
           let z : failedBy (shapeOf f) (other c) (lastQueue (fresh f .queue) xs) x ≡ 0 = rw (m .acts, same-other c, and-false (eqb mark batchFailed)) in
           let w : coreAt s′ (num (other c)) .largest ≡ coreAt s (num (other c)) .largest = ap (λ (b : rc.Core). b .largest) theirs in
           omega (arith, r .largest-is (other c)));
-      race-is = m .race-same ∙ sym race0 ∙ r .race-is ∙ sym (still .0);
-      partner-is = m .partner-same ∙ partner0 ∙ sym (still .1);
+      race-is = m .unraced .0 ∙ sym race0 ∙ r .race-is ∙ sym (still .0);
+      partner-is = m .unraced .1 ∙ partner0 ∙ sym (still .1);
       entries-are = omega (arith, r .entries-are, length-more xs x);
     }
 
