@@ -21,7 +21,11 @@ put4-next p l k x e h =
     let p1 = p ++ (x % 256 ∷ []) in
     let p2 = p1 ++ (x / 256 % 256 ∷ []) in
     let p3 = p2 ++ (x / 65536 % 256 ∷ []) in
+    let third : x / 256 / 256 ≡ x / 65536 = omega arith in
+    let fourth : x / 256 / 256 / 256 ≡ x / 16777216 = omega arith in
     rw (
+      fourth,
+      third,
       put-next-at p l k (k + 1) (x % 256) e (omega arith) refl,
       put-next-at p1 l (k + 1) (k + 2) (x / 256 % 256) (simp length-append (omega arith)) (omega arith) (omega arith),
       put-next-at p2 l (k + 2) (k + 3) (x / 65536 % 256) (simp length-append (omega arith)) (omega arith) (omega arith),

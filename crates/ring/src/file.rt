@@ -4,7 +4,7 @@ ghost use mathlib.Core.Path.{_≡_};
 ghost use mathlib.Core.Bool.{true, false};
 ghost use Prim.Native.Nat.{_+_, _*_, _<_, _≤_};
 ghost use lib.ListN.{length, take, drop};
-ghost use Rattle.model.specs.File.{byteAt, total, ringSize, modulusOf, orderBits, sizesEnd, scheduleAt};
+ghost use Rattle.model.specs.File.{byteAt, total, modulusOf, sizesEnd, scheduleAt};
 ghost use Rattle.model.specs.Codes.{codeOf};
 ghost use Rattle.ring.specs.computed.State.{freshOf};
 ghost use Rattle.ring.specs.computed.Reads.{sizeAt, byteFor, badSize, badModulus, badPair};
@@ -33,7 +33,7 @@ fn modulus_of(file: &[u8]) -> u32
     requires { ⌜ 8 ≤ length (now file) ⌝ }
     ensures { λ r. ⌜ r ≡ modulusOf (now (file .entry)) ⌝ }
 {
-    wide32(file[1]) + 256 * wide32(file[2]) + 65536 * wide32(file[3]) + 16777216 * wide32(file[4])
+    wide32(file[1]) + (wide32(file[2]) + (wide32(file[3]) + wide32(file[4]) * 256) * 256) * 256
 }
 
 // The fresh machine of a run file.

@@ -56,8 +56,8 @@ fn put4(report: &mut [u8], at: usize, x: u32)
 {
     report[at] = byte_of(x);
     report[at + 1] = byte_of(x / 256);
-    report[at + 2] = byte_of(x / 65536);
-    report[at + 3] = byte_of(x / 16777216);
+    report[at + 2] = byte_of(x / 256 / 256);
+    report[at + 3] = byte_of(x / 256 / 256 / 256);
 }
 
 // The lowest byte of a number.

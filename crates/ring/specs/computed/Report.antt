@@ -6,7 +6,7 @@ use Rattle.ring.specs.declared.state.Ran.{Ran}
 use Rattle.ring.specs.computed.State.{newestOf, coreAt, Short}
 
 abbrev pub put4Of : List ℕ → (at x : ℕ) → List ℕ
-put4Of l at x = set (set (set (set l at (x % 256)) (at + 1) (x / 256 % 256)) (at + 2) (x / 65536 % 256)) (at + 3) (x / 16777216 % 256)
+put4Of l at x = set (set (set (set l at (x % 256)) (at + 1) (x / 256 % 256)) (at + 2) (x / 256 / 256 % 256)) (at + 3) (x / 256 / 256 / 256 % 256)
 
 unfoldable pub toldOf : Ran → (entries : ℕ) → List ℕ
 toldOf r entries =
