@@ -67,28 +67,31 @@ loads-are-bytes {g} (move {s = s} {e = e} {x = x} {xs = xs} a p) =
 
 -- COMPLETED BATCHES: their sizes add up to their bytes.
 
--- In a batch, as many bytes are moved as the phase says, and no more than the batch has.
-abbrev SoundAt : Side → Phase → Type 0
-SoundAt me start = Unit {0}
-SoundAt me reload = Unit {0}
+-- At the loads of a batch nothing is moved; then as many bytes as the phase says, and no more than the batch has.
+abbrev pub SoundAt : Side → Phase → Type 0
+SoundAt me start = me .moved ≡ []
+SoundAt me reload = me .moved ≡ []
 SoundAt me (moving i) = (length (me .moved) ≡ i) × ((n : ℕ) (rest : List ℕ) → me .batches ≡ n ∷ rest → i ≤ n)
 
 abbrev Sound : Side → Type 0
 Sound me = SoundAt me (me .phase)
 
-moved-one : (me : Side) (n : ℕ) (rest : List ℕ) (i byte : ℕ) → SoundAt me (moving i) → i < n
+pub first-phase : (b : Bool) (me : Side) → me .moved ≡ [] → SoundAt me (cond b reload (moving 0))
+first-phase true me e = e
+first-phase false me e = (ap length e, λ n rest k. omega arith)
+
+pub moved-one : (me : Side) (n : ℕ) (rest : List ℕ) (i byte : ℕ) → SoundAt me (moving i) → i < n
     → (length (me .moved ++ (byte ∷ [])) ≡ suc i) × ((m : ℕ) (l : List ℕ) → n ∷ rest ≡ m ∷ l → suc i ≤ m)
 moved-one me n rest i byte z l = (length-append (me .moved) (byte ∷ []) ∙ omega (arith, z .0), λ m k e. let en : n ≡ m = cc in omega arith)
 
-all-moved : (me : Side) (n : ℕ) (rest : List ℕ) (i : ℕ) → me .batches ≡ n ∷ rest → SoundAt me (moving i) → n ≤ i
-    → length (me .completed) + length (me .moved) ≡ length (me .completed) + n
+pub all-moved : (me : Side) (n : ℕ) (rest : List ℕ) (i : ℕ) → me .batches ≡ n ∷ rest → SoundAt me (moving i) → n ≤ i → length (me .moved) ≡ n
 all-moved me n rest i eb z l = omega (arith, z .0, z .1 n rest eb)
 
 -- What an entry makes of the side of the core that moves, as far as its batches go.
 data Mine (a b : Side) (mark : ℕ) : Type 0 where
   stays : eqb mark batchFailed ≡ false → eqb mark indexStored ≡ false → b .batches ≡ a .batches → b .completed ≡ a .completed → (Sound a → Sound b) → Mine a b mark
-  fails : (n : ℕ) (rest : List ℕ) → mark ≡ batchFailed → a .batches ≡ n ∷ rest → b .batches ≡ rest → b .completed ≡ a .completed → b .phase ≡ start → Mine a b mark
-  completes : (n : ℕ) (rest : List ℕ) → mark ≡ indexStored → a .batches ≡ n ∷ rest → b .batches ≡ rest → b .phase ≡ start
+  fails : (n : ℕ) (rest : List ℕ) → mark ≡ batchFailed → a .batches ≡ n ∷ rest → b .batches ≡ rest → b .completed ≡ a .completed → b .phase ≡ start → b .moved ≡ [] → Mine a b mark
+  completes : (n : ℕ) (rest : List ℕ) → mark ≡ indexStored → a .batches ≡ n ∷ rest → b .batches ≡ rest → b .phase ≡ start → b .moved ≡ []
       → (Sound a → length (b .completed) ≡ length (a .completed) + n) → Mine a b mark
 
 -- What an entry of core d changes: nothing, or that core's side.
@@ -105,13 +108,9 @@ does-changed o {c = c} {q = q} (no-batch e) x d = stayed q c x _ (ap (λ (y : Re
 does-changed o {c = c} {q = q} no-age x d = stayed q c x _ (ap (λ (y : Result). y .mark) d) refl refl (rw d)
 does-changed o {c = c} {q = q} past x d = stayed q c x _ (ap (λ (y : Result). y .mark) d) refl refl (rw d)
 does-changed o {g} {r} {c = c} {q = q} (owning n rest eb ep) x d =
-    rw d (side _ refl refl (stays refl refl (sym eb) refl (λ _. go (isShort g r c n _ (q .side c .cached)) _ refl)))
-  where
-    go : (b : Bool) (me : Side) → me .moved ≡ [] → SoundAt me (cond b reload (moving 0))
-    go true me e = tt
-    go false me e = (ap length e, λ n rest k. omega arith)
+    rw d (side _ refl refl (stays refl refl (sym eb) refl (λ _. first-phase (isShort g r c n _ (q .side c .cached)) _ refl)))
 does-changed o {c = c} {q = q} (failing n rest s eb ep e h) x (inl d) = stayed q c x _ (ap (λ (y : Result). y .mark) (d .1)) refl refl (rw (d .1))
-does-changed o {c = c} {q = q} (failing n rest s eb ep e h) x (inr d) = rw (d .1) (side _ refl refl (fails n rest refl eb refl refl refl))
+does-changed o {c = c} {q = q} (failing n rest s eb ep e h) x (inr d) = rw (d .1) (side _ refl refl (fails n rest refl eb refl refl refl refl))
 does-changed o {c = c} {q = q} (keeping n rest s eb ep e h) x (inl d) = stayed q c x _ (ap (λ (y : Result). y .mark) (d .1)) refl refl (rw (d .1))
 does-changed o {c = c} {q = q} (keeping n rest s eb ep e h) x (inr d) =
     rw (d .1) (side _ refl refl (stays refl refl (sym eb) refl (λ _. (refl, λ m l k. omega arith))))
@@ -122,7 +121,7 @@ does-changed o {c = c} {q = q} (loading n rest i eb ep l k) x (inl d) = stayed q
 does-changed o {c = c} {q = q} (loading n rest i eb ep l k) x (inr d) =
     rw (d .1) (side _ refl refl (stays refl refl (sym eb) refl (λ z. moved-one (q .side c) n rest i _ (rw ep at z) l)))
 does-changed o {c = c} {q = q} (completing n rest i eb ep l) x d =
-    rw d (side _ refl refl (completes n rest refl eb refl refl (λ z. length-append (q .side c .completed) (q .side c .moved) ∙ all-moved (q .side c) n rest i eb (rw ep at z) l)))
+    rw d (side _ refl refl (completes n rest refl eb refl refl refl (λ z. length-append (q .side c .completed) (q .side c .moved) ∙ omega (arith, all-moved (q .side c) n rest i eb (rw ep at z) l))))
 
 -- Results that end no batch of core c, and those that do.
 
@@ -156,10 +155,10 @@ mine-owed : (c : Core) (a b : Side) (x : Result) → Sound a → who (x .did) �
     → Sound b × ((xs : List Result) → Owed c b xs ≡ Owed c a (x ∷ xs))
 unfolding total
 mine-owed c a b x s w (stays e k p q f) = (f s, λ xs. same-owed c a b x xs (marked-not c x batchFailed e) (marked-not c x indexStored k) p q)
-mine-owed c a b x s w (fails n rest e p q z ph) =
-    (rw ph tt, λ xs. rw (p, q, z, marked-own c x batchFailed batchFailed w e))
-mine-owed c a b x s w (completes n rest e p q ph f) =
-    (rw ph tt, λ xs. rw (p, q, marked-own c x batchFailed indexStored w e, marked-own c x indexStored indexStored w e) (omega (arith, f s)))
+mine-owed c a b x s w (fails n rest e p q z ph em) =
+    (rw ph em, λ xs. rw (p, q, z, marked-own c x batchFailed batchFailed w e))
+mine-owed c a b x s w (completes n rest e p q ph em f) =
+    (rw ph em, λ xs. rw (p, q, marked-own c x batchFailed indexStored w e, marked-own c x indexStored indexStored w e) (omega (arith, f s)))
 
 changed-owed : (c d : Core) (q : Queue) (x : Result) → Sound (q .side c) → Changed q d x
     → Sound (x .queue .side c) × ((xs : List Result) → Owed c (x .queue .side c) xs ≡ Owed c (q .side c) (x ∷ xs))
@@ -200,8 +199,8 @@ run-owed {g} c h (move {s = s} {e = e} {x = x} {xs = xs} a p) =
 -- The bytes of a run's completed pushes, and of its completed pops, are as many as the sizes of the completed batches add up to.
 pub pushed-bytes : (f : List ℕ) {z : State} {es : List Entry} {xs : List Result} → Runs (shapeOf f) (fresh f) es xs z
     → length (z .queue .side core0 .completed) ≡ total (completedOf core0 xs (pushSizes f))
-pushed-bytes f p = run-owed core0 tt p ∙ omega arith
+pushed-bytes f p = run-owed core0 refl p ∙ omega arith
 
 pub popped-bytes : (f : List ℕ) {z : State} {es : List Entry} {xs : List Result} → Runs (shapeOf f) (fresh f) es xs z
     → length (z .queue .side core1 .completed) ≡ total (completedOf core1 xs (popSizes f))
-popped-bytes f p = run-owed core1 tt p ∙ omega arith
+popped-bytes f p = run-owed core1 refl p ∙ omega arith

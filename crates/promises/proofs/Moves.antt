@@ -175,30 +175,21 @@ module _ (g : Shape) (r : Ring) (l : Sizes g) (t : Trace) (q : Queue) (I : Invar
 
   -- The four actions of a batch
 
+  -- The side after the own load, at its next phase.
+  abbrev owned : (n : ℕ) (rest : List ℕ) → Phase → Side
+  owned n rest p = record { batches = n ∷ rest; phase = p; own = held t (index r c); cached = me .cached; moved = []; completed = me .completed }
+
   owning-keeps : (n : ℕ) (rest : List ℕ) → me .phase ≡ start
-      → Invariant g r (load c (index r c) (latest t (index r c)) ∷ t) (turned q c (record {
-        batches = n ∷ rest;
-        phase = cond (isShort g r c n (held t (index r c)) (me .cached)) reload (moving 0);
-        own = held t (index r c);
-        cached = me .cached;
-        moved = [];
-        completed = me .completed;
-      }) (q .feed))
+      → Invariant g r (load c (index r c) (latest t (index r c)) ∷ t)
+      (turned q c (owned n rest (cond (isShort g r c n (held t (index r c)) (me .cached)) reload (moving 0))) (q .feed))
   owning-keeps n rest ep =
       let a : Act = load c (index r c) (latest t (index r c)) in
       let st = still start ep refl in
       let fi = mine .fits in
       let old = seen-old g a t c r (me .cached) (mine .seen-k) (mine .seen) in
-      let w : Side = record {
-        batches = n ∷ rest;
-        phase = cond (isShort g r c n (held t (index r c)) (me .cached)) reload (moving 0);
-        own = held t (index r c);
-        cached = me .cached;
-        moved = [];
-        completed = me .completed;
-      } in
+      let w : Side = owned n rest (cond (isShort g r c n (held t (index r c)) (me .cached)) reload (moving 0)) in
       go-on a (turned q c w (q .feed)) w refl (latest-is t (index r c)) (here-load c (latest t (index r c))) (quiet-load (other c) c c r (latest t (index r c)))
-      (cond-elim (λ p. Half g (a ∷ t) c r (record { batches = n ∷ rest; phase = p; own = held t (index r c); cached = me .cached; moved = []; completed = me .completed }))
+      (cond-elim (λ p. Half g (a ∷ t) c r (owned n rest p))
       (isShort g r c n (held t (index r c)) (me .cached)) reload (moving 0)
       (λ h. waits a (n ∷ rest) reload (held t (index r c)) (me .cached) (mine .seen-k) refl refl (quiet-load c c c r (latest t (index r c))) (st .0) old (omega arith) (mine .newest))
       (λ h. begins a n rest (held t (index r c)) (me .cached) (mine .seen-k) (quiet-load c c c r (latest t (index r c))) (st .0) old

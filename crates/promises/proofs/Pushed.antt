@@ -1,7 +1,7 @@
 -- What core 0 pushed in a run: the file's own bytes, batch by batch, without the failed batches. Nothing of the memory rules is needed.
 use mathlib.Core.Path.{_≡_, refl, sym, ap, _∙_}
 use mathlib.Core.Logic.{inl, inr}
-use mathlib.Core.Bool.{Bool, true, false, cond}
+use mathlib.Core.Bool.{Bool, true, false}
 use mathlib.Core.Option.{Option, none, some}
 use mathlib.Core.List.{List, [], _∷_, _++_, append-nil, append-assoc}
 use Prim.Native.Nat.{ℕ, _+_, _≤_, _<_}
@@ -19,7 +19,7 @@ use Rattle.model.specs.Plan.{Plan, refuse, perform, unless-hidden, unless-race,
 use Rattle.model.specs.Run.{Result, refused, performed, Does, State, coreOf, theRing, Entered, Runs, stop, move, shapeOf, fresh}
 use Rattle.model.specs.Report.{markedOf, completedOf}
 use Rattle.model.proofs.Plan.{Planned, no-batch, no-age, past, owning, failing, keeping, storing, loading, completing, planned}
-use Rattle.model.proofs.Report.{passes}
+use Rattle.model.proofs.Report.{SoundAt, first-phase, moved-one, all-moved, passes}
 use Rattle.model.proofs.Laid.{lawful-laid}
 use Rattle.promises.specs.Batches.{batchesOf, joined}
 
@@ -30,13 +30,7 @@ pusher q = q .side core0
 abbrev ahead : Queue → List ℕ
 ahead q = pusher q .moved ++ q .feed
 
--- At the loads of a batch nothing is moved; then as many bytes as the phase says, and no more than the batch has.
-abbrev SoundAt : Side → Phase → Type 0
-SoundAt me start = me .moved ≡ []
-SoundAt me reload = me .moved ≡ []
-SoundAt me (moving i) = (length (me .moved) ≡ i) × ((n : ℕ) (rest : List ℕ) → me .batches ≡ n ∷ rest → i ≤ n)
-
--- And there are bytes ahead for all batches left.
+-- As many bytes are moved as the phase says, and there are bytes ahead for all batches left.
 record Sound (q : Queue) : Type 0 where
   at : SoundAt (pusher q) (pusher q .phase)
   enough : total (pusher q .batches) ≤ length (ahead q)
@@ -100,16 +94,12 @@ module _ (q : Queue) (n : ℕ) (rest : List ℕ) (eb : pusher q .batches ≡ n �
   enough-after feed e s = let k = left s in let a = length-drop n (ahead q) in let b = ap length e in omega arith
 
   -- With all bytes of the batch moved, the batch is what is moved.
-  all-moved : (i : ℕ) → pusher q .phase ≡ moving i → n ≤ i → Sound q → length (pusher q .moved) ≡ n
-  all-moved i ep l s = let k = at-phase q (moving i) ep s in omega (arith, k .0, k .1 n rest eb)
+  whole-batch : (i : ℕ) → pusher q .phase ≡ moving i → n ≤ i → Sound q → length (pusher q .moved) ≡ n
+  whole-batch i ep l s = all-moved (pusher q) n rest i eb (at-phase q (moving i) ep s) l
 
 -- A byte stored: the first one to push goes behind those moved.
 byte-moved : (moved feed : List ℕ) → 0 < length feed → (moved ++ (getD feed 0 0 ∷ [])) ++ drop 1 feed ≡ moved ++ feed
 byte-moved moved feed h = append-snoc moved (getD feed 0 0) (drop 1 feed) ∙ ap (λ l. moved ++ l) (sym (drop-cons feed 0 0 h))
-
-first-phase : (b : Bool) (me : Side) → me .moved ≡ [] → SoundAt me (cond b reload (moving 0))
-first-phase true me e = e
-first-phase false me e = (ap length e, λ n rest k. omega arith)
 
 -- Core 0's plans.
 pushing : {g : Shape} {q : Queue} {t : Trace} {age : ℕ} {p : Plan} → Planned g theRing core0 q t age p → Carried core0 q p
@@ -130,17 +120,17 @@ pushing {q = q} (keeping n rest s eb ep e h) =
     goes-on q _ refl refl (sym eb) refl (λ k. (refl, λ m l z. omega arith)) (λ k. ap (λ l. l ++ q .feed) (sym (at-phase q reload ep k)))
 pushing {q = q} (storing n rest i eb ep l k) =
     goes-on q _ refl refl (sym eb) refl
-    (λ s. (length-append (pusher q .moved) _ ∙ omega (arith, at-phase q (moving i) ep s .0), λ m r e. let en : n ≡ m = cc in omega arith))
+    (λ s. moved-one (pusher q) n rest i _ (at-phase q (moving i) ep s) l)
     (λ s. byte-moved (pusher q .moved) (q .feed) (fed q n rest eb i (at-phase q (moving i) ep s .0) l s))
 pushing {q = q} (loading n rest i eb ep l k) = clash (cc)
 pushing {q = q} (completing n rest i eb ep l) = record {
   sound = λ s. record { at = refl; enough = enough-after q n rest eb (q .feed) (after s) s };
-  owed = λ s xs. rw (eb, take-at (pusher q .moved) (q .feed) n (all-moved q n rest eb i ep l s), after s)
+  owed = λ s xs. rw (eb, take-at (pusher q .moved) (q .feed) n (whole-batch q n rest eb i ep l s), after s)
       (append-assoc (pusher q .completed) (pusher q .moved) _);
 }
   where
     after : Sound q → drop n (ahead q) ≡ q .feed
-    after s = drop-at (pusher q .moved) (q .feed) n (all-moved q n rest eb i ep l s)
+    after s = drop-at (pusher q .moved) (q .feed) n (whole-batch q n rest eb i ep l s)
 
 -- Core 1's plans.
 popping : {g : Shape} {q : Queue} {t : Trace} {age : ℕ} {p : Plan} → Planned g theRing core1 q t age p → Carried core1 q p
