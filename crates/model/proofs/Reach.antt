@@ -1,4 +1,5 @@
--- Mark 134 is given exactly where the store to be read is out of reach; with age 0 it never is.
+-- Mark 134 is given exactly where the store to be read is out of reach; with age 0 it never is. A run has one ring, so what axiom 2 hides the core
+-- has passed as well.
 use mathlib.Core.Path.{_≡_}
 use mathlib.Core.Logic.{_↔_, inl, inr}
 use mathlib.Core.Bool.{Bool, true, false}
@@ -6,17 +7,19 @@ use mathlib.Core.Option.{Option, none, some}
 use mathlib.Core.List.{List}
 use Prim.Native.Nat.{ℕ}
 use native.Mathlib.Omega.{arith}
-use Rattle.order.specs.Trace.{Core, other, Ring, index, Trace, stores}
+use Rattle.order.specs.Trace.{Core, other, Ring, index, idle, load, Trace, stores}
 use Rattle.order.specs.Order.{Orders}
+use Rattle.order.specs.Hidden.{Hidden}
+use Rattle.order.specs.Coherence.{Passed}
 use Rattle.order.specs.Reads.{OutOfReach}
-use Rattle.order.proofs.Trace.{getElem-getD}
+use Rattle.order.proofs.Trace.{clash, getElem-getD, StoreOf}
 use Rattle.order.proofs.Chain.{Formed}
-use Rattle.order.proofs.Coherence.{latest-in-reach}
+use Rattle.order.proofs.Coherence.{latest-in-reach, LoadsIn, AllIn, hidden-is-passed}
 use Rattle.model.specs.File.{Entry}
 use Rattle.model.specs.Marks.{ownLoaded, foreignLoaded, batchFailed, dataStored, dataLoaded, indexStored, raceFound, noSuchCore, isHalted, noBatchLeft, noAgeHere, pastInitial, storeHidden}
 use Rattle.model.specs.Queue.{Shape, Queue}
 use Rattle.model.specs.Plan.{Plan, refuse, perform, unless-hidden, unless-race, plan}
-use Rattle.model.specs.Run.{Result, Does, State, coreOf, theRing, Entered, Step, Runs, shapeOf, fresh}
+use Rattle.model.specs.Run.{Result, Does, State, coreOf, theRing, Entered, Step, Runs, stop, move, shapeOf, fresh}
 use Rattle.model.proofs.Plan.{Planned, no-batch, no-age, past, owning, failing, keeping, storing, loading, completing, planned}
 use Rattle.model.proofs.Formed.{run-formed}
 
@@ -92,3 +95,49 @@ pub newest-never-refused : (f : List ℕ) {es : List Entry} {xs : List Result} {
 newest-never-refused f {s = s} run e x young d k =
     let b = out-of-reach-exactly (shapeOf f) s e x d .0 k in
     entered-newest (shapeOf f) s (coreOf (e .core)) (s .halted) (run-formed tt run) (rw young at b)
+
+-- ONE RING: the index loads of a plan, and of a run, are of that ring.
+
+abbrev PlanIn : Ring → Core → Plan → Type 0
+PlanIn r c (refuse n) = Unit {0}
+PlanIn r c (perform n a z) = LoadsIn r a
+PlanIn r c (unless-hidden x s n z) = LoadsIn r (load c x s)
+PlanIn r c (unless-race x a n z) = LoadsIn r a
+
+planned-in : {g : Shape} {r : Ring} {c : Core} {q : Queue} {t : Trace} {age : ℕ} {p : Plan} → Planned g r c q t age p → PlanIn r c p
+planned-in (no-batch e) = tt
+planned-in no-age = tt
+planned-in past = tt
+planned-in (owning n rest eb ep) = λ c d p s e. cc
+planned-in (failing n rest s eb ep e h) = λ c d p s e. cc
+planned-in (keeping n rest s eb ep e h) = λ c d p s e. cc
+planned-in (storing n rest i eb ep l k) = λ c d p s e. clash (cc)
+planned-in (loading n rest i eb ep l k) = λ c d p s e. clash (cc)
+planned-in (completing n rest i eb ep l) = λ c d p s e. clash (cc)
+
+idle-in : (r : Ring) → LoadsIn r idle
+idle-in r c d p s e = clash (cc)
+
+does-in : (o : Orders) (r : Ring) (c : Core) (q : Queue) (t : Trace) (p : Plan) (x : Result) → PlanIn r c p → Does o c q t p x → LoadsIn r (x .did)
+does-in o r c q t (refuse n) x h d = rw d (idle-in r)
+does-in o r c q t (perform n a z) x h d = rw d h
+does-in o r c q t (unless-hidden y s n z) x h (inl d) = rw (d .1) (idle-in r)
+does-in o r c q t (unless-hidden y s n z) x h (inr d) = rw (d .1) h
+does-in o r c q t (unless-race y a n z) x h (inl d) = rw (d .2) h
+does-in o r c q t (unless-race y a n z) x h (inr d) = rw (d .1) h
+
+entered-in : (g : Shape) (s : State) (age : ℕ) (c : Option Core) (h : Bool) (x : Result) → Entered g s age c h x → LoadsIn theRing (x .did)
+entered-in g s age none h x d = rw d (idle-in theRing)
+entered-in g s age (some c) true x d = rw d (idle-in theRing)
+entered-in g s age (some c) false x d =
+    does-in (g .orders) theRing c (s .queue) (s .trace) (plan g theRing c (s .queue) (s .trace) age) x (planned-in (planned g theRing c (s .queue) (s .trace) age)) d
+
+run-in : {g : Shape} {s z : State} {es : List Entry} {xs : List Result} → AllIn theRing (s .trace) → Runs g s es xs z → AllIn theRing (z .trace)
+run-in h stop = h
+run-in {g} h (move {s = s} {e = e} {x = x} a p) = run-in (entered-in g s (e .age) (coreOf (e .core)) (s .halted) x a, h) p
+
+-- WHAT AXIOM 2 HIDES from a core, after any run, the core has passed: with one ring it forbids nothing that coherence allows.
+pub run-hidden-is-passed : (f : List ℕ) {es : List Entry} {xs : List Result} {s : State} → Runs (shapeOf f) (fresh f) es xs s
+    → (c : Core) (n : ℕ) → StoreOf (s .trace) (index theRing (other c)) n
+    → Hidden (shapeOf f .orders) (s .trace) c (index theRing (other c)) n → Passed (s .trace) c (index theRing (other c)) n
+run-hidden-is-passed f {s = s} run c n st h = hidden-is-passed (shapeOf f .orders) (s .trace) (run-formed tt run) theRing (run-in tt run) c n st h
