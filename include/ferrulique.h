@@ -101,7 +101,7 @@ static inline uint32_t ferrulique_number(const uint8_t *report, enum ferrulique_
  * three buffers lie apart from one another and from the file. No value of any byte and no length is refused in any way but by a code. A null
  * pointer is fine where its length is 0. The function keeps nothing between calls, allocates nothing, calls nothing but memcpy and memset, and
  * may run in several threads at once on buffers of their own. It always returns: time grows with the entries and, at a foreign load, with the
- * stores of the index, at most 256. Stack: 6,248 bytes measured on x86-64, whatever the file.
+ * stores of the index, at most 256. Stack: 6,232 bytes measured on x86-64, whatever the file.
  *
  *   static uint8_t marks[FERRULIQUE_MOST_ENTRIES], out[FERRULIQUE_MOST_OUT_BYTES], report[FERRULIQUE_REPORT_BYTES];
  *   if (ferrulique_run(file, n, marks, sizeof marks, out, sizeof out, report, sizeof report) == FERRULIQUE_RAN) {

@@ -39,7 +39,7 @@ sub-t17 : tie.Need-sub-t17
 sub-t17 c = search needs
 
 cast-t18 : tie.Need-cast-t18
-cast-t18 c = search needs
+cast-t18 c = omega (arith, c .struct-known5 .given)
 
 cast-t19 : tie.Need-cast-t19
 cast-t19 c = omega (arith, c .struct-known6 .given)
