@@ -150,19 +150,21 @@ module _ {f : List ℕ} (g : Good f) {s : Ring} {st : State} {xs : List Result} 
     out = out;
   }
 
+  -- The ring after an access of slot y that does not race.
+  abbrev unraced : (y k v : ℕ) → Ring
+  unraced y k v = accessed s c y false k v (next (st .trace))
+
   -- It does not race: one core moves on, and the slots, the feed and out are those after the access.
   moves-joined : (a : Act) (y k v byte : ℕ) (slots feed out : List ℕ) → IsAccess f c a
-      → Bytes (ringSize f) (accessed s c y false k v (next (st .trace)) .slots) slots
-      → Lately (ringSize f) (a ∷ st .trace) (accessed s c y false k v (next (st .trace)) .slots)
-      → feed ≡ drop (coreAt (accessed s c y false k v (next (st .trace))) 0 .passed + coreAt (accessed s c y false k v (next (st .trace))) 0 .moved) (pushBytes f)
-      → length out ≡ coreAt (accessed s c y false k v (next (st .trace))) 1 .done + coreAt (accessed s c y false k v (next (st .trace))) 1 .moved
-      → out ≡ st .queue .out ++ readOf (accessed s c y false k v (next (st .trace)))
-      → Joined f (accessed s c y false k v (next (st .trace))) st xs (performed (mv.accessMark false (num c)) a (after-access byte slots feed out))
+      → Bytes (ringSize f) (unraced y k v .slots) slots → Lately (ringSize f) (a ∷ st .trace) (unraced y k v .slots)
+      → feed ≡ drop (coreAt (unraced y k v) 0 .passed + coreAt (unraced y k v) 0 .moved) (pushBytes f)
+      → length out ≡ coreAt (unraced y k v) 1 .done + coreAt (unraced y k v) 1 .moved
+      → out ≡ st .queue .out ++ readOf (unraced y k v)
+      → Joined f (unraced y k v) st xs (performed (mv.accessMark false (num c)) a (after-access byte slots feed out))
   unfolding after-access mv.ifRaces
   moves-joined a y k v byte slots feed out is bytes lately fed long reads-out =
       let z = moved-facts in
-      let s′ : Ring = accessed s c y false k v (next (st .trace)) in
-      let same = list-same s s′ refl refl in
+      let same = list-same s (unraced y k v) refl refl in
       let m = access-marks c in
       record {
         rep = moved-kept r h (record {
@@ -192,7 +194,7 @@ module _ {f : List ℕ} (g : Good f) {s : Ring} {st : State} {xs : List Result} 
 
   -- It races: nothing changes but the pair of entries and the mark. Or it does not, with result x.
   access-joined : (a : Act) (y k v : ℕ) (x : Result) → IsAccess f c a
-      → Joined f (accessed s c y false k v (next (st .trace))) st xs x
+      → Joined f (unraced y k v) st xs x
       → (b : Bool) → Joined f (accessed s c y b k v (next (st .trace))) st xs (cond b (raced a (st .queue) k) x)
   unfolding mv.ifRaces mv.accessMark mv.accessed mv.movedOn
   access-joined a y k v x is j true = record {

@@ -31,6 +31,11 @@ use Rattle.ring.proofs.Join.{chosen-other, step-is}
 abbrev pub answer : List ℕ → Ring → (core age : ℕ) → ℕ
 answer f s core age = refusalOf core age (s .race) (byteAt f (6 + whoOf core)) (coreAt s (whoOf core)) (s .back) (s .front)
 
+-- The other core has a store of this age, and it is not out of core c's reach.
+abbrev pub Readable : Ring → Core → (age : ℕ) → Type 0
+Readable s c age = (age < listOf s (other c) .count)
+    × (outOfReach (listOf s (other c) .entries) (placeOf (listOf s (other c)) age) (coreAt s (num c) .known) (coreAt s (num c) .read) (listOf s (other c) .count) ≡ false)
+
 -- Where it answers 0: the entry names core c, which has a batch in a machine that runs; only a foreign load has an age, within the list, of a
 -- store within reach.
 pub record Goes (f : List ℕ) (s : Ring) (st : State) (core age : ℕ) : Type 0 where
@@ -39,8 +44,7 @@ pub record Goes (f : List ℕ) (s : Ring) (st : State) (core age : ℕ) : Type 0
   pub who-is : whoOf core ≡ num c
   pub running : st .halted ≡ false
   pub more : coreAt s (num c) .batch < length (sizesOf f c)
-  pub aged : coreAt s (num c) .phase ≡ 1 → (age < listOf s (other c) .count)
-      × (outOfReach (listOf s (other c) .entries) (placeOf (listOf s (other c)) age) (coreAt s (num c) .known) (coreAt s (num c) .read) (listOf s (other c) .count) ≡ false)
+  pub aged : coreAt s (num c) .phase ≡ 1 → Readable s c age
   pub ageless : ¬ (coreAt s (num c) .phase ≡ 1) → age ≡ 0
 
 -- The two ways it can go, as an answer n.
@@ -142,6 +146,10 @@ module _ {f : List ℕ} (g : Good f) {s : Ring} {st : State} {xs : List Result} 
 
 -- The same, for an entry that names core c, by the code's own tests.
 module _ {f : List ℕ} (g : Good f) {s : Ring} {st : State} {xs : List Result} (r : Rep f s st xs) (c : Core) (age : ℕ) where
+  goes : st .halted ≡ false → coreAt s (num c) .batch < length (sizesOf f c) → (coreAt s (num c) .phase ≡ 1 → Readable s c age)
+      → (¬ (coreAt s (num c) .phase ≡ 1) → age ≡ 0) → Way f s st (num c) age 0
+  goes h more aged ageless = inr (record { c = c; core-is = refl; who-is = who-is c; running = h; more = more; aged = aged; ageless = ageless }, refl)
+
   theirs-way : st .halted ≡ false → coreAt s (num c) .batch < length (sizesOf f c) → coreAt s (num c) .phase ≡ 1
       → Way f s st (num c) age (loadRefusal age (coreAt s (num c) .known) (coreAt s (num c) .read) (listOf s (other c)))
   unfolding loadRefusal
@@ -155,18 +163,7 @@ module _ {f : List ℕ} (g : Good f) {s : Ring} {st : State} {xs : List Result} 
           → Way f s st (num c) age (cond x 133 (cond y 134 0))
       go true y p q = inl (past-way g r c age h more ep (leb-true (listOf s (other c) .count) age p), omega arith)
       go false true p q = inl (hidden-way g r c age h more ep (leb-false (listOf s (other c) .count) age p) q, omega arith)
-      go false false p q = inr (
-        record {
-          c = c;
-          core-is = refl;
-          who-is = who-is c;
-          running = h;
-          more = more;
-          aged = λ _. (leb-false (listOf s (other c) .count) age p, q);
-          ageless = λ n. absurd (n one);
-        },
-        refl,
-      )
+      go false false p q = goes h more (λ _. (leb-false (listOf s (other c) .count) age p, q)) (λ n. absurd (n one))
 
   core-way : Way f s st (num c) age (cond (eqb (s .race) 0)
       (cond (leb (byteAt f (6 + num c)) (coreAt s (num c) .batch)) 131
@@ -189,18 +186,7 @@ module _ {f : List ℕ} (g : Good f) {s : Ring} {st : State} {xs : List Result} 
           phase false k = aged (eqb age 0) refl
             where
               aged : (b : Bool) → eqb age 0 ≡ b → Way f s st (num c) age (cond b 0 132)
-              aged true z = inr (
-                record {
-                  c = c;
-                  core-is = refl;
-                  who-is = who-is c;
-                  running = h;
-                  more = more;
-                  aged = λ one. absurd (eqb-false (coreAt s (num c) .phase) 1 k one);
-                  ageless = λ _. eqb-true age 0 z;
-                },
-                refl,
-              )
+              aged true z = goes h more (λ one. absurd (eqb-false (coreAt s (num c) .phase) 1 k one)) (λ _. eqb-true age 0 z)
               aged false z = inl (no-age-way g r c age h more (eqb-false (coreAt s (num c) .phase) 1 k) (eqb-false age 0 z), omega arith)
 
       race : (b : Bool) → eqb (s .race) 0 ≡ b
