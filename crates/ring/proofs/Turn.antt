@@ -11,9 +11,8 @@ use Rattle.model.specs.Run.{refused, shapeOf}
 use Rattle.model.specs.computed.Machine.{step}
 use Rattle.ring.specs.declared.state.Ring.{Ring}
 use Rattle.ring.specs.declared.state.Ran.{Ran}
-use Rattle.ring.specs.computed.State.{freshOf, coreAt}
-use Rattle.ring.specs.computed.Refusal.{refusalOf}
-use Rattle.ring.specs.computed.Run.{whoOf, nextPlace, putByte, Ready, Finished}
+use Rattle.ring.specs.computed.State.{freshOf}
+use Rattle.ring.specs.computed.Run.{nextPlace, putByte, Ready, Finished}
 use Rattle.ring.proofs.Parts.{Good, good}
 use Rattle.ring.proofs.Join.{Joined}
 use Rattle.ring.proofs.Verdict.{answer, Goes, verdict}
@@ -42,10 +41,10 @@ turning-none {f} {marks = marks} {out = out} bytes ready s e =
     let g = good f (ready .lawful) bytes in
     record { fine = g; ready = ready; going = rw e (going-none g marks out) }
 
--- One entry: its two bytes, the core's place, and the code's answer.
+-- One entry: its two bytes, and the code's answer.
 module _ {f : List ℕ} {at n : ℕ} {marks₀ out₀ marks out : List ℕ} {s : Ring} {performed k i : ℕ} (z : Turning f at n marks₀ out₀ marks out s performed k i)
-    (more : i < n) (core age w b v : ℕ) (ec : core ≡ getD f (at + 2 * i) 0) (ea : age ≡ getD f (at + 2 * i + 1) 0) (ew : w ≡ whoOf core)
-    (eb : b ≡ byteAt f (6 + w)) (ev : v ≡ refusalOf core age (s .race) b (coreAt s w) (s .back) (s .front)) where
+    (more : i < n) (core age v : ℕ) (ec : core ≡ getD f (at + 2 * i) 0) (ea : age ≡ getD f (at + 2 * i + 1) 0)
+    (ev : v ≡ answer f s core age) where
   fits : length (scheduleOf f) ≤ length marks₀
   fits = omega (arith, z .ready .marks-fit, z .ready .n-is)
 
@@ -60,14 +59,11 @@ module _ {f : List ℕ} {at n : ℕ} {marks₀ out₀ marks out : List ℕ} {s :
       let e : at + 2 * i + 1 ≡ scheduleAt f + (2 * i + 1) = omega (arith, z .ready .at-is) in
       ea ∙ ap (λ (j : ℕ). getD f j 0) e
 
-  the-answer : v ≡ answer f s core age
-  the-answer = ev ∙ rw (eb, ew) refl
-
   pub refused-turns : ¬ (v ≡ 0) → Turning f at n marks₀ out₀ (set marks i v) out s performed k (i + 1)
   refused-turns h = record {
     fine = z .fine;
     ready = z .ready;
-    going = going-refused (z .fine) (z .going) fits (z .ready .out-fits) left v (the-answer ∙ rw (the-core, the-age) refl) h;
+    going = going-refused (z .fine) (z .going) fits (z .ready .out-fits) left v (ev ∙ rw (the-core, the-age) refl) h;
   }
 
   pub goes-on : v ≡ 0 → Goes f s (endTo f i) core age
@@ -76,7 +72,7 @@ module _ {f : List ℕ} {at n : ℕ} {marks₀ out₀ marks out : List ℕ} {s :
       go : ((step (shapeOf f) (endTo f i) (record { core = core; age = age }) ≡ refused (endTo f i .queue) (answer f s core age)) × (129 ≤ answer f s core age))
           ⊎ (Goes f s (endTo f i) core age × (answer f s core age ≡ 0)) → Goes f s (endTo f i) core age
       go (inr x) = x .0
-      go (inl x) = absurd (omega (arith, the-answer, x .1))
+      go (inl x) = absurd (omega (arith, ev, x .1))
 
   -- The entry's number.
   pub number-is : next (endTo f i .trace) ≡ i + 1

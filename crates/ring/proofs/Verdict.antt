@@ -20,7 +20,7 @@ use Rattle.model.specs.Run.{Result, refused, State, shapeOf}
 use Rattle.model.specs.computed.Machine.{decided, entered, step}
 use Rattle.ring.specs.declared.state.Ring.{Ring}
 use Rattle.ring.specs.computed.State.{placeOf, outOfReach, chosen, coreAt}
-use Rattle.ring.specs.computed.Refusal.{loadRefusal, refusalOf}
+use Rattle.ring.specs.computed.Refusal.{loadRefusal, coreRefusal, refusalOf}
 use Rattle.ring.specs.computed.Run.{whoOf}
 use Rattle.ring.proofs.Parts.{num, sizesOf, Good, sizes-length, batches-cons, phaseOf}
 use Rattle.ring.proofs.Lists.{getElem-out, reach-is}
@@ -29,7 +29,7 @@ use Rattle.ring.proofs.Join.{chosen-other, step-is}
 
 -- What the code answers for an entry.
 abbrev pub answer : List ℕ → Ring → (core age : ℕ) → ℕ
-answer f s core age = refusalOf core age (s .race) (byteAt f (6 + whoOf core)) (coreAt s (whoOf core)) (s .back) (s .front)
+answer f s core age = refusalOf f core age (s .race) (s .cores) (s .back) (s .front)
 
 -- The other core has a store of this age, and it is not out of core c's reach.
 abbrev pub Readable : Ring → Core → (age : ℕ) → Type 0
@@ -165,17 +165,15 @@ module _ {f : List ℕ} (g : Good f) {s : Ring} {st : State} {xs : List Result} 
       go false true p q = inl (hidden-way g r c age h more ep (leb-false (listOf s (other c) .count) age p) q, omega arith)
       go false false p q = goes h more (λ _. (leb-false (listOf s (other c) .count) age p, q)) (λ n. absurd (n one))
 
-  core-way : Way f s st (num c) age (cond (eqb (s .race) 0)
-      (cond (leb (byteAt f (6 + num c)) (coreAt s (num c) .batch)) 131
-      (cond (eqb (coreAt s (num c) .phase) 1) (loadRefusal age (coreAt s (num c) .known) (coreAt s (num c) .read) (listOf s (other c))) (cond (eqb age 0) 0 132)))
-      130)
-  core-way = race (eqb (s .race) 0) refl
+  running-way : st .halted ≡ false → Way f s st (num c) age (coreRefusal age (byteAt f (6 + num c)) (coreAt s (num c)) (listOf s (other c)))
+  unfolding coreRefusal
+  running-way h = moves (leb (byteAt f (6 + num c)) (coreAt s (num c) .batch)) refl
     where
-      moves : st .halted ≡ false → (b : Bool) → leb (byteAt f (6 + num c)) (coreAt s (num c) .batch) ≡ b
+      moves : (b : Bool) → leb (byteAt f (6 + num c)) (coreAt s (num c) .batch) ≡ b
           → Way f s st (num c) age (cond b 131
           (cond (eqb (coreAt s (num c) .phase) 1) (loadRefusal age (coreAt s (num c) .known) (coreAt s (num c) .read) (listOf s (other c))) (cond (eqb age 0) 0 132)))
-      moves h true e = inl (no-batch-way g r c age h (omega (arith, sizes-length g c, leb-true (byteAt f (6 + num c)) (coreAt s (num c) .batch) e)), omega arith)
-      moves h false e = phase (eqb (coreAt s (num c) .phase) 1) refl
+      moves true e = inl (no-batch-way g r c age h (omega (arith, sizes-length g c, leb-true (byteAt f (6 + num c)) (coreAt s (num c) .batch) e)), omega arith)
+      moves false e = phase (eqb (coreAt s (num c) .phase) 1) refl
         where
           more : coreAt s (num c) .batch < length (sizesOf f c)
           more = omega (arith, sizes-length g c, leb-false (byteAt f (6 + num c)) (coreAt s (num c) .batch) e)
@@ -189,12 +187,12 @@ module _ {f : List ℕ} (g : Good f) {s : Ring} {st : State} {xs : List Result} 
               aged true z = goes h more (λ one. absurd (eqb-false (coreAt s (num c) .phase) 1 k one)) (λ _. eqb-true age 0 z)
               aged false z = inl (no-age-way g r c age h more (eqb-false (coreAt s (num c) .phase) 1 k) (eqb-false age 0 z), omega arith)
 
+  core-way : Way f s st (num c) age (cond (eqb (s .race) 0) (coreRefusal age (byteAt f (6 + num c)) (coreAt s (num c)) (listOf s (other c))) 130)
+  core-way = race (eqb (s .race) 0) refl
+    where
       race : (b : Bool) → eqb (s .race) 0 ≡ b
-          → Way f s st (num c) age (cond b
-          (cond (leb (byteAt f (6 + num c)) (coreAt s (num c) .batch)) 131
-          (cond (eqb (coreAt s (num c) .phase) 1) (loadRefusal age (coreAt s (num c) .known) (coreAt s (num c) .read) (listOf s (other c))) (cond (eqb age 0) 0 132)))
-          130)
-      race true e = moves (r .halted-is ∙ ap not e) (leb (byteAt f (6 + num c)) (coreAt s (num c) .batch)) refl
+          → Way f s st (num c) age (cond b (coreRefusal age (byteAt f (6 + num c)) (coreAt s (num c)) (listOf s (other c))) 130)
+      race true e = running-way (r .halted-is ∙ ap not e)
       race false e = inl (halted-way g r c age (r .halted-is ∙ ap not e), omega arith)
 
 -- THE REFUSAL: a mark from 129 on, with which the definition refuses, or 0 and the entry goes.

@@ -1,5 +1,4 @@
 // The run over all entries of the schedule.
-use crate::file::batches;
 use crate::file::byte_for;
 use crate::file::fresh_ring;
 use crate::file::size_of;
@@ -26,21 +25,13 @@ pub(crate) fn run(file: &[u8], at: usize, n: usize, marks: &mut [u8], out: &mut 
         let age = file[a + 1];
         let who = who_of(core);
         let cores = ring.cores;
-        let c = cores[who];
-        let no = refusal(
-            core,
-            age,
-            ring.race,
-            batches(file, who),
-            c,
-            ring.back,
-            ring.front,
-        );
+        let no = refusal(file, core, age, ring.race, cores, ring.back, ring.front);
         if no != 0 {
             marks[i] = no;
             i += 1;
             continue;
         }
+        let c = cores[who];
         let entry = (i + 1) as u16;
         let phase = c.phase;
         match phase {
