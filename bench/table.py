@@ -26,6 +26,15 @@ def case_row(case):
     return row(case.words, f"{case.entries:,}", number(case.library / per), number(case.plain / per), f"{case.ratio():.2f}")
 
 
+def instructions_rows(times):
+    return [
+        row(case.words, *(f"{count / entries:.1f}" for count in counts), f"{counts[0] / counts[1]:.2f}")
+        for case in times.cases
+        if case.key in times.instructions
+        for entries, *counts in [times.instructions[case.key]]
+    ]
+
+
 def copies_rows(copies):
     """Marks that copy the same stand in one row."""
     marks = {}
@@ -35,12 +44,13 @@ def copies_rows(copies):
 
 
 def lines(times):
-    out = [f"Machine: {times.notes['machine']}. Plain C by {times.notes['compiler']}, -O2. The least of {times.notes['repeats']} samples.", ""]
+    out = [f"Machine: {times.notes['machine']}. Plain C by {times.notes['compiler']}, -O2. The least of {times.notes['repeats']} samples in each of {times.notes['processes']} processes.", ""]
     heads = ("library, ns", "plain C, ns", "ratio")
     out += table(("for an entry", "entries", *heads), [case_row(c) for c in times.cases if c.by_entry()])
     out += table(("for a run", "entries", *heads), [case_row(c) for c in times.cases if not c.by_entry()])
     grown = [row(f"{int(n):,}", number(a), number(b), f"{a / b:.2f}") for n, a, b in times.growth[::GROWTH_ROWS_APART]]
     out += table(("a run of this many entries, one core after the other", *heads), grown)
+    out += table(("instructions for an entry", "library", "plain C", "ratio"), instructions_rows(times))
     out += table(("copied by the library at an entry with mark", "calls of memcpy", "bytes"), copies_rows(times.copies))
     out += table(("stack", "library", "plain C"), [row("bytes, from the return address down", *(f"{n:,}" for n in times.stack))])
     return "\n".join(out)

@@ -8,6 +8,10 @@ class Case:
         self.key, self.words = key, " ".join(words)
         self.entries, self.library, self.plain = int(entries), float(library), float(plain)
 
+    def least(self, other):
+        """The same case from another process."""
+        self.library, self.plain = min(self.library, other.library), min(self.plain, other.plain)
+
     def ratio(self):
         return self.library / self.plain
 
@@ -17,21 +21,32 @@ class Case:
 
 
 class Times:
+    """Of a case that several processes have timed, the least times."""
+
     def __init__(self, path):
-        self.cases, self.growth, self.copies, self.stack = [], [], [], None
+        by_key, grown = {}, {}
+        self.copies, self.instructions, self.stack = [], {}, None
         self.notes = {}
         with open(path, encoding="utf-8") as lines:
             for line in lines:
                 kind, rest = line.rstrip("\n").split(" ", 1)
-                self.take(kind, rest)
+                if kind == "case":
+                    case = Case(*rest.split(" "))
+                    by_key.setdefault(case.key, case).least(case)
+                elif kind == "grow":
+                    entries, *times = (float(x) for x in rest.split())
+                    grown[entries] = [min(pair) for pair in zip(times, grown.get(entries, times))]
+                else:
+                    self.take(kind, rest)
+        self.cases = list(by_key.values())
+        self.growth = [(entries, *times) for entries, times in grown.items()]
 
     def take(self, kind, rest):
-        if kind == "case":
-            self.cases.append(Case(*rest.split(" ")))
-        elif kind == "grow":
-            self.growth.append(tuple(float(x) for x in rest.split()))
-        elif kind == "copies":
+        if kind == "copies":
             self.copies.append(tuple(int(x) for x in rest.split()))
+        elif kind == "instructions":
+            key, *counts = rest.split()
+            self.instructions[key] = tuple(int(x) for x in counts)
         elif kind == "stack":
             self.stack = tuple(int(x) for x in rest.split())
         else:
