@@ -330,10 +330,12 @@ finished {f} g {marks₀} {out₀} {marks} {out} {s} {performed} {k} {i} z past 
       countable = record {
         performed-le = omega (arith, counted z);
         loads-lt = omega (arith, out-long g z, total-small (popSizes f) (length (popSizes f)) (size-small g core1), sizes-few g core1, pops-all f);
-        back = short g (z .rep) core0;
-        front = short g (z .rep) core1;
-        modulus-pos = omega (arith, z .rep .modulus-is, g .ranges .modulus-low);
-        modulus-le = omega (arith, z .rep .modulus-is, g .ranges .modulus-high);
-        front-lt = rw (z .rep .modulus-is) (newest-below (z .rep .list-is core1));
+        reckonable = record {
+          back-short = short g (z .rep) core0;
+          front-short = short g (z .rep) core1;
+          modulus-pos = omega (arith, z .rep .modulus-is, g .ranges .modulus-low);
+          modulus-le = omega (arith, z .rep .modulus-is, g .ranges .modulus-high);
+          front-lt = rw (z .rep .modulus-is) (newest-below (z .rep .list-is core1));
+        };
       };
     })
