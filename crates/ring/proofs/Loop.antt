@@ -4,7 +4,7 @@ use mathlib.Core.Logic.{_⊎_, inl, inr}
 use mathlib.Core.Bool.{Bool, true, false, cond}
 use mathlib.Core.Option.{some}
 use mathlib.Core.List.{List, [], _∷_, _++_}
-use Prim.Native.Nat.{ℕ, zero, suc, _+_, _*_, _-_, _%_, _<_, _≤_}
+use Prim.Native.Nat.{ℕ, zero, suc, _+_, _*_, _-_, _<_, _≤_}
 use native.Mathlib.Omega.{arith}
 use native.Mathlib.Numerals.{add-one}
 use lib.Dec.{eqb}
@@ -25,12 +25,12 @@ use Rattle.model.proofs.Total.{total-small}
 use Rattle.ring.specs.declared.state.Slot.{Slot}
 use Rattle.ring.specs.declared.state.Ring.{Ring}
 use Rattle.ring.specs.declared.state.Ran.{Ran}
-use Rattle.ring.specs.computed.State.{freshStores, freshSlots, freshSlot, freshCore, freshOf, newestOf}
+use Rattle.ring.specs.computed.State.{freshStores, freshSlots, freshSlot, freshCore, freshOf}
 use Rattle.ring.specs.computed.Run.{nextPlace, putByte, resultsOf, endOf, Finished}
-use Rattle.ring.specs.computed.Report.{toldOf}
+use Rattle.ring.specs.computed.Report.{occupancyOf, toldOf}
 use Rattle.ring.proofs.Parts.{sizesOf, Good, sizes-few, size-small}
 use Rattle.ring.proofs.Lists.{Listed, newest-is, newest-below}
-use Rattle.ring.proofs.Rep.{CoreRep, Rep, short, count-more, length-more}
+use Rattle.ring.proofs.Rep.{CoreRep, Rep, modulus-pos, modulus-le, short, count-more, length-more}
 use Rattle.ring.proofs.Buffers.{put-next}
 use Rattle.ring.proofs.Kept.{refused-kept}
 use Rattle.ring.proofs.Join.{Joined, no-more}
@@ -310,7 +310,7 @@ told-numbers {f} g {s = s} {performed = performed} {k = k} {i = i} z n en =
     let b = newest-is (r .list-is core0) in
     let c = newest-is (r .list-is core1) in
     let m = r .modulus-is in
-    let left : (newestOf (s .back) + (s .modulus - newestOf (s .front))) % s .modulus ≡ occupancy (modulusOf f) (endTo f i .trace) = cc (b, c, m) in
+    let left : occupancyOf (s .back) (s .front) (s .modulus) ≡ occupancy (modulusOf f) (endTo f i .trace) = cc (b, c, m) in
     cc (z .performed-is, refused-are, pushed-are, popped-are, loads-are, left, r .failed-is core0, r .failed-is core1, r .race-is, r .partner-is, r .largest-is core0, r .largest-is core1)
 
 -- THE END of the run: every entry was tried.
@@ -333,8 +333,8 @@ finished {f} g {marks₀} {out₀} {marks} {out} {s} {performed} {k} {i} z past 
         reckonable = record {
           back-short = short g (z .rep) core0;
           front-short = short g (z .rep) core1;
-          modulus-pos = omega (arith, z .rep .modulus-is, g .ranges .modulus-low);
-          modulus-le = omega (arith, z .rep .modulus-is, g .ranges .modulus-high);
+          modulus-pos = modulus-pos g (z .rep);
+          modulus-le = modulus-le g (z .rep);
           front-lt = rw (z .rep .modulus-is) (newest-below (z .rep .list-is core1));
         };
       };

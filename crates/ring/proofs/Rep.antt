@@ -94,6 +94,19 @@ pub record Rep (f : List ℕ) (s : Ring) (st : State) (xs : List Result) : Type 
 
 -- What the moves ask follows.
 
+module _ {f : List ℕ} (g : Good f) {s : Ring} {st : State} {xs : List Result} (r : Rep f s st xs) where
+  pub size-pos : 0 < s .size
+  size-pos = omega (arith, r .size-is, g .ranges .some-slot)
+
+  pub size-le : s .size ≤ 128
+  size-le = omega (arith, r .size-is, g .ranges .slots)
+
+  pub modulus-pos : 0 < s .modulus
+  modulus-pos = omega (arith, r .modulus-is, g .ranges .modulus-low)
+
+  pub modulus-le : s .modulus ≤ 65536
+  modulus-le = omega (arith, r .modulus-is, g .ranges .modulus-high)
+
 pub short : {f : List ℕ} {s : Ring} {st : State} {xs : List Result} → Good f → Rep f s st xs → (c : Core) → Short (listOf s c)
 short {f} {s} g r c = record {
   some = listed-some (r .list-is c);

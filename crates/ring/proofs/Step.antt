@@ -16,12 +16,12 @@ use Rattle.model.specs.computed.Machine.{step}
 use Rattle.model.proofs.Total.{total-take-suc, total-take-le}
 use Rattle.ring.specs.declared.state.Core as rc
 use Rattle.ring.specs.declared.state.Ring.{Ring}
-use Rattle.ring.specs.computed.State.{chosen, coreAt, Short, Bounded}
+use Rattle.ring.specs.computed.State.{chosen, coreAt, Bounded}
 use Rattle.ring.specs.computed.Reads.{sizeAt, byteFor}
 use Rattle.ring.specs.computed.Run.{whoOf}
 use Rattle.ring.specs.computed.Moves as mv
 use Rattle.ring.proofs.Parts.{num, sizesOf, Good, sizes-few, sizes-length, phaseOf, progress}
-use Rattle.ring.proofs.Rep.{listOf, Rep, short, bounded}
+use Rattle.ring.proofs.Rep.{listOf, Rep, bounded}
 use Rattle.ring.proofs.Join.{Joined, chosen-is, chosen-other, own-joined, foreign-joined, index-joined}
 use Rattle.ring.proofs.Data.{store-joined, load-joined}
 use Rattle.ring.proofs.Verdict.{phase-reload, Goes}
@@ -116,12 +116,6 @@ module _ {f : List ℕ} (g : Good f) {s : Ring} {st : State} {xs : List Result} 
   pub who-lt : w < 2
   who-lt = omega (arith, who, num-lt (v .c))
 
-  pub back-short : Short (s .back)
-  back-short = short g r core0
-
-  pub front-short : Short (s .front)
-  front-short = short g r core1
-
   pub batch-lt : coreAt s w .batch < byteAt f (6 + w)
   batch-lt = rw who (omega (arith, v .more, sizes-length g (v .c)))
 
@@ -144,18 +138,6 @@ module _ {f : List ℕ} (g : Good f) {s : Ring} {st : State} {xs : List Result} 
 
   pub moved-lt : coreAt s w .phase ≡ 2 → coreAt s w .moved < 255
   moved-lt p = omega (arith, left p, bounds)
-
-  pub size-pos : 0 < s .size
-  size-pos = omega (arith, r .size-is, g .ranges .some-slot)
-
-  pub size-le : s .size ≤ 128
-  size-le = omega (arith, r .size-is, g .ranges .slots)
-
-  pub modulus-pos : 0 < s .modulus
-  modulus-pos = omega (arith, r .modulus-is, g .ranges .modulus-low)
-
-  pub modulus-le : s .modulus ≤ 65536
-  modulus-le = omega (arith, r .modulus-is, g .ranges .modulus-high)
 
   pub byte-lt : coreAt s w .phase ≡ 2 → w ≡ 0 → sizesEnd f + coreAt s w .passed + coreAt s w .moved < length f
   unfolding scheduleAt

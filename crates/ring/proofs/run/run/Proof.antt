@@ -8,9 +8,9 @@ use Rattle.order.specs.Trace.{core0, core1}
 use Rattle.model.specs.Run.{shapeOf}
 use Rattle.model.specs.computed.Machine.{step}
 use Rattle.ring.proofs.Parts.{ranges-of}
-use Rattle.ring.proofs.Rep.{short}
+use Rattle.ring.proofs.Rep.{size-pos, size-le, modulus-pos, modulus-le, short}
 use Rattle.ring.proofs.Join.{Joined}
-use Rattle.ring.proofs.Step.{own-arm, foreign-arm, data-arm, index-arm, who-lt, back-short, front-short, batch-lt, bounds, age-lt, moved-lt, size-pos, size-le, modulus-pos, modulus-le, byte-lt, count-lt}
+use Rattle.ring.proofs.Step.{own-arm, foreign-arm, data-arm, index-arm, who-lt, batch-lt, bounds, age-lt, moved-lt, byte-lt, count-lt}
 use Rattle.ring.proofs.Loop.{resultsTo, endTo}
 use Rattle.ring.proofs.Verdict.{Goes}
 use Rattle.ring.proofs.Turn.{Turning, entry-in, turning-none, refused-turns, goes-on, number-is, place-here, moved-turns, marks-length, out-length, few-performed, few-entries, all-turned}
@@ -97,19 +97,19 @@ size-of-requires : tie.Need-size-of-requires Inv-loop μ-loop
 size-of-requires c κs = (batch-lt (c .before .before .before .before .before .before .before .before .before .loop .inv .fine) (c .before .before .before .before .before .before .before .before .before .loop .inv .going .rep) (getD (c .before .before .before .before .before .before .before .before .before .before .before .before .before .before .args .file .now) (c .before .before .before .before .before .before .before .before .before .before .before .before .before .before .args .at + 2 * c .before .before .before .before .before .before .before .before .before .loop .i) 0) (getD (c .before .before .before .before .before .before .before .before .before .before .before .before .before .before .args .file .now) (c .before .before .before .before .before .before .before .before .before .before .before .before .before .before .args .at + 2 * c .before .before .before .before .before .before .before .before .before .loop .i + 1) 0) (goes (c .before .before)) (c .before .before .before .before .before .who-of .result) (c .before .before .before .before .before .who-of .ensures .0), (who-lt (c .before .before .before .before .before .before .before .before .before .loop .inv .fine) (c .before .before .before .before .before .before .before .before .before .loop .inv .going .rep) (getD (c .before .before .before .before .before .before .before .before .before .before .before .before .before .before .args .file .now) (c .before .before .before .before .before .before .before .before .before .before .before .before .before .before .args .at + 2 * c .before .before .before .before .before .before .before .before .before .loop .i) 0) (getD (c .before .before .before .before .before .before .before .before .before .before .before .before .before .before .args .file .now) (c .before .before .before .before .before .before .before .before .before .before .before .before .before .before .args .at + 2 * c .before .before .before .before .before .before .before .before .before .loop .i + 1) 0) (goes (c .before .before)) (c .before .before .before .before .before .who-of .result) (c .before .before .before .before .before .who-of .ensures .0), (c .before .before .before .before .before .before .before .before .before .loop .inv .fine .ranges .header, c .before .before .before .before .before .before .before .before .before .loop .inv .fine .ranges .sizes-in)))
 
 own-load-requires : tie.Need-own-load-requires Inv-loop μ-loop
-own-load-requires c κs = (who-lt (c .before .before .before .before .before .before .before .before .before .before .loop .inv .fine) (c .before .before .before .before .before .before .before .before .before .before .loop .inv .going .rep) (getD (c .before .before .before .before .before .before .before .before .before .before .before .before .before .before .before .args .file .now) (c .before .before .before .before .before .before .before .before .before .before .before .before .before .before .before .args .at + 2 * c .before .before .before .before .before .before .before .before .before .before .loop .i) 0) (getD (c .before .before .before .before .before .before .before .before .before .before .before .before .before .before .before .args .file .now) (c .before .before .before .before .before .before .before .before .before .before .before .before .before .before .before .args .at + 2 * c .before .before .before .before .before .before .before .before .before .before .loop .i + 1) 0) (goes (c .before .before .before)) (c .before .before .before .before .before .before .who-of .result) (c .before .before .before .before .before .before .who-of .ensures .0), (back-short (c .before .before .before .before .before .before .before .before .before .before .loop .inv .fine) (c .before .before .before .before .before .before .before .before .before .before .loop .inv .going .rep) (getD (c .before .before .before .before .before .before .before .before .before .before .before .before .before .before .before .args .file .now) (c .before .before .before .before .before .before .before .before .before .before .before .before .before .before .before .args .at + 2 * c .before .before .before .before .before .before .before .before .before .before .loop .i) 0) (getD (c .before .before .before .before .before .before .before .before .before .before .before .before .before .before .before .args .file .now) (c .before .before .before .before .before .before .before .before .before .before .before .before .before .before .before .args .at + 2 * c .before .before .before .before .before .before .before .before .before .before .loop .i + 1) 0) (goes (c .before .before .before)) (c .before .before .before .before .before .before .who-of .result) (c .before .before .before .before .before .before .who-of .ensures .0), front-short (c .before .before .before .before .before .before .before .before .before .before .loop .inv .fine) (c .before .before .before .before .before .before .before .before .before .before .loop .inv .going .rep) (getD (c .before .before .before .before .before .before .before .before .before .before .before .before .before .before .before .args .file .now) (c .before .before .before .before .before .before .before .before .before .before .before .before .before .before .before .args .at + 2 * c .before .before .before .before .before .before .before .before .before .before .loop .i) 0) (getD (c .before .before .before .before .before .before .before .before .before .before .before .before .before .before .before .args .file .now) (c .before .before .before .before .before .before .before .before .before .before .before .before .before .before .before .args .at + 2 * c .before .before .before .before .before .before .before .before .before .before .loop .i + 1) 0) (goes (c .before .before .before)) (c .before .before .before .before .before .before .who-of .result) (c .before .before .before .before .before .before .who-of .ensures .0)))
+own-load-requires c κs = (who-lt (c .before .before .before .before .before .before .before .before .before .before .loop .inv .fine) (c .before .before .before .before .before .before .before .before .before .before .loop .inv .going .rep) (getD (c .before .before .before .before .before .before .before .before .before .before .before .before .before .before .before .args .file .now) (c .before .before .before .before .before .before .before .before .before .before .before .before .before .before .before .args .at + 2 * c .before .before .before .before .before .before .before .before .before .before .loop .i) 0) (getD (c .before .before .before .before .before .before .before .before .before .before .before .before .before .before .before .args .file .now) (c .before .before .before .before .before .before .before .before .before .before .before .before .before .before .before .args .at + 2 * c .before .before .before .before .before .before .before .before .before .before .loop .i + 1) 0) (goes (c .before .before .before)) (c .before .before .before .before .before .before .who-of .result) (c .before .before .before .before .before .before .who-of .ensures .0), (short (c .before .before .before .before .before .before .before .before .before .before .loop .inv .fine) (c .before .before .before .before .before .before .before .before .before .before .loop .inv .going .rep) core0, short (c .before .before .before .before .before .before .before .before .before .before .loop .inv .fine) (c .before .before .before .before .before .before .before .before .before .before .loop .inv .going .rep) core1))
 
 foreign-load-requires : tie.Need-foreign-load-requires Inv-loop μ-loop
-foreign-load-requires c κs = (who-lt (c .before .before .before .before .before .before .before .before .before .loop .inv .fine) (c .before .before .before .before .before .before .before .before .before .loop .inv .going .rep) (getD (c .before .before .before .before .before .before .before .before .before .before .before .before .before .before .args .file .now) (c .before .before .before .before .before .before .before .before .before .before .before .before .before .before .args .at + 2 * c .before .before .before .before .before .before .before .before .before .loop .i) 0) (getD (c .before .before .before .before .before .before .before .before .before .before .before .before .before .before .args .file .now) (c .before .before .before .before .before .before .before .before .before .before .before .before .before .before .args .at + 2 * c .before .before .before .before .before .before .before .before .before .loop .i + 1) 0) (goes (c .before .before)) (c .before .before .before .before .before .who-of .result) (c .before .before .before .before .before .who-of .ensures .0), (age-lt (c .before .before .before .before .before .before .before .before .before .loop .inv .fine) (c .before .before .before .before .before .before .before .before .before .loop .inv .going .rep) (getD (c .before .before .before .before .before .before .before .before .before .before .before .before .before .before .args .file .now) (c .before .before .before .before .before .before .before .before .before .before .before .before .before .before .args .at + 2 * c .before .before .before .before .before .before .before .before .before .loop .i) 0) (getD (c .before .before .before .before .before .before .before .before .before .before .before .before .before .before .args .file .now) (c .before .before .before .before .before .before .before .before .before .before .before .before .before .before .args .at + 2 * c .before .before .before .before .before .before .before .before .before .loop .i + 1) 0) (goes (c .before .before)) (c .before .before .before .before .before .who-of .result) (c .before .before .before .before .before .who-of .ensures .0) (c .match .keys2), (back-short (c .before .before .before .before .before .before .before .before .before .loop .inv .fine) (c .before .before .before .before .before .before .before .before .before .loop .inv .going .rep) (getD (c .before .before .before .before .before .before .before .before .before .before .before .before .before .before .args .file .now) (c .before .before .before .before .before .before .before .before .before .before .before .before .before .before .args .at + 2 * c .before .before .before .before .before .before .before .before .before .loop .i) 0) (getD (c .before .before .before .before .before .before .before .before .before .before .before .before .before .before .args .file .now) (c .before .before .before .before .before .before .before .before .before .before .before .before .before .before .args .at + 2 * c .before .before .before .before .before .before .before .before .before .loop .i + 1) 0) (goes (c .before .before)) (c .before .before .before .before .before .who-of .result) (c .before .before .before .before .before .who-of .ensures .0), (front-short (c .before .before .before .before .before .before .before .before .before .loop .inv .fine) (c .before .before .before .before .before .before .before .before .before .loop .inv .going .rep) (getD (c .before .before .before .before .before .before .before .before .before .before .before .before .before .before .args .file .now) (c .before .before .before .before .before .before .before .before .before .before .before .before .before .before .args .at + 2 * c .before .before .before .before .before .before .before .before .before .loop .i) 0) (getD (c .before .before .before .before .before .before .before .before .before .before .before .before .before .before .args .file .now) (c .before .before .before .before .before .before .before .before .before .before .before .before .before .before .args .at + 2 * c .before .before .before .before .before .before .before .before .before .loop .i + 1) 0) (goes (c .before .before)) (c .before .before .before .before .before .who-of .result) (c .before .before .before .before .before .who-of .ensures .0), bounds (c .before .before .before .before .before .before .before .before .before .loop .inv .fine) (c .before .before .before .before .before .before .before .before .before .loop .inv .going .rep) (getD (c .before .before .before .before .before .before .before .before .before .before .before .before .before .before .args .file .now) (c .before .before .before .before .before .before .before .before .before .before .before .before .before .before .args .at + 2 * c .before .before .before .before .before .before .before .before .before .loop .i) 0) (getD (c .before .before .before .before .before .before .before .before .before .before .before .before .before .before .args .file .now) (c .before .before .before .before .before .before .before .before .before .before .before .before .before .before .args .at + 2 * c .before .before .before .before .before .before .before .before .before .loop .i + 1) 0) (goes (c .before .before)) (c .before .before .before .before .before .who-of .result) (c .before .before .before .before .before .who-of .ensures .0)))))
+foreign-load-requires c κs = (who-lt (c .before .before .before .before .before .before .before .before .before .loop .inv .fine) (c .before .before .before .before .before .before .before .before .before .loop .inv .going .rep) (getD (c .before .before .before .before .before .before .before .before .before .before .before .before .before .before .args .file .now) (c .before .before .before .before .before .before .before .before .before .before .before .before .before .before .args .at + 2 * c .before .before .before .before .before .before .before .before .before .loop .i) 0) (getD (c .before .before .before .before .before .before .before .before .before .before .before .before .before .before .args .file .now) (c .before .before .before .before .before .before .before .before .before .before .before .before .before .before .args .at + 2 * c .before .before .before .before .before .before .before .before .before .loop .i + 1) 0) (goes (c .before .before)) (c .before .before .before .before .before .who-of .result) (c .before .before .before .before .before .who-of .ensures .0), (age-lt (c .before .before .before .before .before .before .before .before .before .loop .inv .fine) (c .before .before .before .before .before .before .before .before .before .loop .inv .going .rep) (getD (c .before .before .before .before .before .before .before .before .before .before .before .before .before .before .args .file .now) (c .before .before .before .before .before .before .before .before .before .before .before .before .before .before .args .at + 2 * c .before .before .before .before .before .before .before .before .before .loop .i) 0) (getD (c .before .before .before .before .before .before .before .before .before .before .before .before .before .before .args .file .now) (c .before .before .before .before .before .before .before .before .before .before .before .before .before .before .args .at + 2 * c .before .before .before .before .before .before .before .before .before .loop .i + 1) 0) (goes (c .before .before)) (c .before .before .before .before .before .who-of .result) (c .before .before .before .before .before .who-of .ensures .0) (c .match .keys2), (short (c .before .before .before .before .before .before .before .before .before .loop .inv .fine) (c .before .before .before .before .before .before .before .before .before .loop .inv .going .rep) core0, (short (c .before .before .before .before .before .before .before .before .before .loop .inv .fine) (c .before .before .before .before .before .before .before .before .before .loop .inv .going .rep) core1, bounds (c .before .before .before .before .before .before .before .before .before .loop .inv .fine) (c .before .before .before .before .before .before .before .before .before .loop .inv .going .rep) (getD (c .before .before .before .before .before .before .before .before .before .before .before .before .before .before .args .file .now) (c .before .before .before .before .before .before .before .before .before .before .before .before .before .before .args .at + 2 * c .before .before .before .before .before .before .before .before .before .loop .i) 0) (getD (c .before .before .before .before .before .before .before .before .before .before .before .before .before .before .args .file .now) (c .before .before .before .before .before .before .before .before .before .before .before .before .before .before .args .at + 2 * c .before .before .before .before .before .before .before .before .before .loop .i + 1) 0) (goes (c .before .before)) (c .before .before .before .before .before .who-of .result) (c .before .before .before .before .before .who-of .ensures .0)))))
 
 byte-for-requires : tie.Need-byte-for-requires Inv-loop μ-loop
 byte-for-requires c κs = (c .before .before .before .before .before .before .before .before .before .loop .inv .fine .ranges .header, byte-lt (c .before .before .before .before .before .before .before .before .before .loop .inv .fine) (c .before .before .before .before .before .before .before .before .before .loop .inv .going .rep) (getD (c .before .before .before .before .before .before .before .before .before .before .before .before .before .before .args .file .now) (c .before .before .before .before .before .before .before .before .before .before .before .before .before .before .args .at + 2 * c .before .before .before .before .before .before .before .before .before .loop .i) 0) (getD (c .before .before .before .before .before .before .before .before .before .before .before .before .before .before .args .file .now) (c .before .before .before .before .before .before .before .before .before .before .before .before .before .before .args .at + 2 * c .before .before .before .before .before .before .before .before .before .loop .i + 1) 0) (goes (c .before .before)) (c .before .before .before .before .before .who-of .result) (c .before .before .before .before .before .who-of .ensures .0) (c .match .keys3))
 
 data-access-requires : tie.Need-data-access-requires Inv-loop μ-loop
-data-access-requires c κs = (who-lt (c .before .before .before .before .before .before .before .before .before .before .loop .inv .fine) (c .before .before .before .before .before .before .before .before .before .before .loop .inv .going .rep) (getD (c .before .before .before .before .before .before .before .before .before .before .before .before .before .before .before .args .file .now) (c .before .before .before .before .before .before .before .before .before .before .before .before .before .before .before .args .at + 2 * c .before .before .before .before .before .before .before .before .before .before .loop .i) 0) (getD (c .before .before .before .before .before .before .before .before .before .before .before .before .before .before .before .args .file .now) (c .before .before .before .before .before .before .before .before .before .before .before .before .before .before .before .args .at + 2 * c .before .before .before .before .before .before .before .before .before .before .loop .i + 1) 0) (goes (c .before .before .before)) (c .before .before .before .before .before .before .who-of .result) (c .before .before .before .before .before .before .who-of .ensures .0), (size-pos (c .before .before .before .before .before .before .before .before .before .before .loop .inv .fine) (c .before .before .before .before .before .before .before .before .before .before .loop .inv .going .rep) (getD (c .before .before .before .before .before .before .before .before .before .before .before .before .before .before .before .args .file .now) (c .before .before .before .before .before .before .before .before .before .before .before .before .before .before .before .args .at + 2 * c .before .before .before .before .before .before .before .before .before .before .loop .i) 0) (getD (c .before .before .before .before .before .before .before .before .before .before .before .before .before .before .before .args .file .now) (c .before .before .before .before .before .before .before .before .before .before .before .before .before .before .before .args .at + 2 * c .before .before .before .before .before .before .before .before .before .before .loop .i + 1) 0) (goes (c .before .before .before)) (c .before .before .before .before .before .before .who-of .result) (c .before .before .before .before .before .before .who-of .ensures .0), (size-le (c .before .before .before .before .before .before .before .before .before .before .loop .inv .fine) (c .before .before .before .before .before .before .before .before .before .before .loop .inv .going .rep) (getD (c .before .before .before .before .before .before .before .before .before .before .before .before .before .before .before .args .file .now) (c .before .before .before .before .before .before .before .before .before .before .before .before .before .before .before .args .at + 2 * c .before .before .before .before .before .before .before .before .before .before .loop .i) 0) (getD (c .before .before .before .before .before .before .before .before .before .before .before .before .before .before .before .args .file .now) (c .before .before .before .before .before .before .before .before .before .before .before .before .before .before .before .args .at + 2 * c .before .before .before .before .before .before .before .before .before .before .loop .i + 1) 0) (goes (c .before .before .before)) (c .before .before .before .before .before .before .who-of .result) (c .before .before .before .before .before .before .who-of .ensures .0), moved-lt (c .before .before .before .before .before .before .before .before .before .before .loop .inv .fine) (c .before .before .before .before .before .before .before .before .before .before .loop .inv .going .rep) (getD (c .before .before .before .before .before .before .before .before .before .before .before .before .before .before .before .args .file .now) (c .before .before .before .before .before .before .before .before .before .before .before .before .before .before .before .args .at + 2 * c .before .before .before .before .before .before .before .before .before .before .loop .i) 0) (getD (c .before .before .before .before .before .before .before .before .before .before .before .before .before .before .before .args .file .now) (c .before .before .before .before .before .before .before .before .before .before .before .before .before .before .before .args .at + 2 * c .before .before .before .before .before .before .before .before .before .before .loop .i + 1) 0) (goes (c .before .before .before)) (c .before .before .before .before .before .before .who-of .result) (c .before .before .before .before .before .before .who-of .ensures .0) (c .before .match .keys3))))
+data-access-requires c κs = (who-lt (c .before .before .before .before .before .before .before .before .before .before .loop .inv .fine) (c .before .before .before .before .before .before .before .before .before .before .loop .inv .going .rep) (getD (c .before .before .before .before .before .before .before .before .before .before .before .before .before .before .before .args .file .now) (c .before .before .before .before .before .before .before .before .before .before .before .before .before .before .before .args .at + 2 * c .before .before .before .before .before .before .before .before .before .before .loop .i) 0) (getD (c .before .before .before .before .before .before .before .before .before .before .before .before .before .before .before .args .file .now) (c .before .before .before .before .before .before .before .before .before .before .before .before .before .before .before .args .at + 2 * c .before .before .before .before .before .before .before .before .before .before .loop .i + 1) 0) (goes (c .before .before .before)) (c .before .before .before .before .before .before .who-of .result) (c .before .before .before .before .before .before .who-of .ensures .0), (size-pos (c .before .before .before .before .before .before .before .before .before .before .loop .inv .fine) (c .before .before .before .before .before .before .before .before .before .before .loop .inv .going .rep), (size-le (c .before .before .before .before .before .before .before .before .before .before .loop .inv .fine) (c .before .before .before .before .before .before .before .before .before .before .loop .inv .going .rep), moved-lt (c .before .before .before .before .before .before .before .before .before .before .loop .inv .fine) (c .before .before .before .before .before .before .before .before .before .before .loop .inv .going .rep) (getD (c .before .before .before .before .before .before .before .before .before .before .before .before .before .before .before .args .file .now) (c .before .before .before .before .before .before .before .before .before .before .before .before .before .before .before .args .at + 2 * c .before .before .before .before .before .before .before .before .before .before .loop .i) 0) (getD (c .before .before .before .before .before .before .before .before .before .before .before .before .before .before .before .args .file .now) (c .before .before .before .before .before .before .before .before .before .before .before .before .before .before .before .args .at + 2 * c .before .before .before .before .before .before .before .before .before .before .loop .i + 1) 0) (goes (c .before .before .before)) (c .before .before .before .before .before .before .who-of .result) (c .before .before .before .before .before .before .who-of .ensures .0) (c .before .match .keys3))))
 
 index-store-requires : tie.Need-index-store-requires Inv-loop μ-loop
-index-store-requires c κs = (who-lt (c .before .before .before .before .before .before .before .before .before .loop .inv .fine) (c .before .before .before .before .before .before .before .before .before .loop .inv .going .rep) (getD (c .before .before .before .before .before .before .before .before .before .before .before .before .before .before .args .file .now) (c .before .before .before .before .before .before .before .before .before .before .before .before .before .before .args .at + 2 * c .before .before .before .before .before .before .before .before .before .loop .i) 0) (getD (c .before .before .before .before .before .before .before .before .before .before .before .before .before .before .args .file .now) (c .before .before .before .before .before .before .before .before .before .before .before .before .before .before .args .at + 2 * c .before .before .before .before .before .before .before .before .before .loop .i + 1) 0) (goes (c .before .before)) (c .before .before .before .before .before .who-of .result) (c .before .before .before .before .before .who-of .ensures .0), (modulus-pos (c .before .before .before .before .before .before .before .before .before .loop .inv .fine) (c .before .before .before .before .before .before .before .before .before .loop .inv .going .rep) (getD (c .before .before .before .before .before .before .before .before .before .before .before .before .before .before .args .file .now) (c .before .before .before .before .before .before .before .before .before .before .before .before .before .before .args .at + 2 * c .before .before .before .before .before .before .before .before .before .loop .i) 0) (getD (c .before .before .before .before .before .before .before .before .before .before .before .before .before .before .args .file .now) (c .before .before .before .before .before .before .before .before .before .before .before .before .before .before .args .at + 2 * c .before .before .before .before .before .before .before .before .before .loop .i + 1) 0) (goes (c .before .before)) (c .before .before .before .before .before .who-of .result) (c .before .before .before .before .before .who-of .ensures .0), (modulus-le (c .before .before .before .before .before .before .before .before .before .loop .inv .fine) (c .before .before .before .before .before .before .before .before .before .loop .inv .going .rep) (getD (c .before .before .before .before .before .before .before .before .before .before .before .before .before .before .args .file .now) (c .before .before .before .before .before .before .before .before .before .before .before .before .before .before .args .at + 2 * c .before .before .before .before .before .before .before .before .before .loop .i) 0) (getD (c .before .before .before .before .before .before .before .before .before .before .before .before .before .before .args .file .now) (c .before .before .before .before .before .before .before .before .before .before .before .before .before .before .args .at + 2 * c .before .before .before .before .before .before .before .before .before .loop .i + 1) 0) (goes (c .before .before)) (c .before .before .before .before .before .who-of .result) (c .before .before .before .before .before .who-of .ensures .0), (bounds (c .before .before .before .before .before .before .before .before .before .loop .inv .fine) (c .before .before .before .before .before .before .before .before .before .loop .inv .going .rep) (getD (c .before .before .before .before .before .before .before .before .before .before .before .before .before .before .args .file .now) (c .before .before .before .before .before .before .before .before .before .before .before .before .before .before .args .at + 2 * c .before .before .before .before .before .before .before .before .before .loop .i) 0) (getD (c .before .before .before .before .before .before .before .before .before .before .before .before .before .before .args .file .now) (c .before .before .before .before .before .before .before .before .before .before .before .before .before .before .args .at + 2 * c .before .before .before .before .before .before .before .before .before .loop .i + 1) 0) (goes (c .before .before)) (c .before .before .before .before .before .who-of .result) (c .before .before .before .before .before .who-of .ensures .0), count-lt (c .before .before .before .before .before .before .before .before .before .loop .inv .fine) (c .before .before .before .before .before .before .before .before .before .loop .inv .going .rep) (getD (c .before .before .before .before .before .before .before .before .before .before .before .before .before .before .args .file .now) (c .before .before .before .before .before .before .before .before .before .before .before .before .before .before .args .at + 2 * c .before .before .before .before .before .before .before .before .before .loop .i) 0) (getD (c .before .before .before .before .before .before .before .before .before .before .before .before .before .before .args .file .now) (c .before .before .before .before .before .before .before .before .before .before .before .before .before .before .args .at + 2 * c .before .before .before .before .before .before .before .before .before .loop .i + 1) 0) (goes (c .before .before)) (c .before .before .before .before .before .who-of .result) (c .before .before .before .before .before .who-of .ensures .0)))))
+index-store-requires c κs = (who-lt (c .before .before .before .before .before .before .before .before .before .loop .inv .fine) (c .before .before .before .before .before .before .before .before .before .loop .inv .going .rep) (getD (c .before .before .before .before .before .before .before .before .before .before .before .before .before .before .args .file .now) (c .before .before .before .before .before .before .before .before .before .before .before .before .before .before .args .at + 2 * c .before .before .before .before .before .before .before .before .before .loop .i) 0) (getD (c .before .before .before .before .before .before .before .before .before .before .before .before .before .before .args .file .now) (c .before .before .before .before .before .before .before .before .before .before .before .before .before .before .args .at + 2 * c .before .before .before .before .before .before .before .before .before .loop .i + 1) 0) (goes (c .before .before)) (c .before .before .before .before .before .who-of .result) (c .before .before .before .before .before .who-of .ensures .0), (modulus-pos (c .before .before .before .before .before .before .before .before .before .loop .inv .fine) (c .before .before .before .before .before .before .before .before .before .loop .inv .going .rep), (modulus-le (c .before .before .before .before .before .before .before .before .before .loop .inv .fine) (c .before .before .before .before .before .before .before .before .before .loop .inv .going .rep), (bounds (c .before .before .before .before .before .before .before .before .before .loop .inv .fine) (c .before .before .before .before .before .before .before .before .before .loop .inv .going .rep) (getD (c .before .before .before .before .before .before .before .before .before .before .before .before .before .before .args .file .now) (c .before .before .before .before .before .before .before .before .before .before .before .before .before .before .args .at + 2 * c .before .before .before .before .before .before .before .before .before .loop .i) 0) (getD (c .before .before .before .before .before .before .before .before .before .before .before .before .before .before .args .file .now) (c .before .before .before .before .before .before .before .before .before .before .before .before .before .before .args .at + 2 * c .before .before .before .before .before .before .before .before .before .loop .i + 1) 0) (goes (c .before .before)) (c .before .before .before .before .before .who-of .result) (c .before .before .before .before .before .who-of .ensures .0), count-lt (c .before .before .before .before .before .before .before .before .before .loop .inv .fine) (c .before .before .before .before .before .before .before .before .before .loop .inv .going .rep) (getD (c .before .before .before .before .before .before .before .before .before .before .before .before .before .before .args .file .now) (c .before .before .before .before .before .before .before .before .before .before .before .before .before .before .args .at + 2 * c .before .before .before .before .before .before .before .before .before .loop .i) 0) (getD (c .before .before .before .before .before .before .before .before .before .before .before .before .before .before .args .file .now) (c .before .before .before .before .before .before .before .before .before .before .before .before .before .before .args .at + 2 * c .before .before .before .before .before .before .before .before .before .loop .i + 1) 0) (goes (c .before .before)) (c .before .before .before .before .before .who-of .result) (c .before .before .before .before .before .who-of .ensures .0)))))
 
 -- The move that was made joins the definition's step, whichever arm was taken.
 joined : (c : lts.At-match-came claims reads.Pre reads.Post Inv-loop μ-loop) → Joined (c .before .before .before .before .before .before .before .before .before .before .before .before .before .before .args .file .now) (c .match .ring) (endTo (c .before .before .before .before .before .before .before .before .before .before .before .before .before .before .args .file .now) (c .before .before .before .before .before .before .before .before .before .loop .i)) (resultsTo (c .before .before .before .before .before .before .before .before .before .before .before .before .before .before .args .file .now) (c .before .before .before .before .before .before .before .before .before .loop .i)) (step (shapeOf (c .before .before .before .before .before .before .before .before .before .before .before .before .before .before .args .file .now)) (endTo (c .before .before .before .before .before .before .before .before .before .before .before .before .before .before .args .file .now) (c .before .before .before .before .before .before .before .before .before .loop .i)) (record { core = (getD (c .before .before .before .before .before .before .before .before .before .before .before .before .before .before .args .file .now) (c .before .before .before .before .before .before .before .before .before .before .before .before .before .before .args .at + 2 * c .before .before .before .before .before .before .before .before .before .loop .i) 0); age = (getD (c .before .before .before .before .before .before .before .before .before .before .before .before .before .before .args .file .now) (c .before .before .before .before .before .before .before .before .before .before .before .before .before .before .args .at + 2 * c .before .before .before .before .before .before .before .before .before .loop .i + 1) 0) }))
