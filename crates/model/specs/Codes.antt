@@ -59,6 +59,10 @@ applies (x ∷ xs) k = cond (eqb k (x .code)) (x .applies) (applies xs k)
 unfoldable pub codeOf : List ℕ → ℕ → ℕ → ℕ → ℕ
 codeOf f marks out report = firstOf (table f marks out report)
 
+-- The code for a file alone, where no buffer is lent: 0, or 1 to 8.
+abbrev pub fileCode : List ℕ → ℕ
+fileCode f = firstOf (fileTable f)
+
 -- A lawful file: none of the codes 1 to 8 applies.
 abbrev pub Lawful : List ℕ → Type 0
-Lawful f = firstOf (fileTable f) ≡ 0
+Lawful f = fileCode f ≡ 0

@@ -234,7 +234,7 @@ module _ {f : List ℕ} (g : Good f) {s : Ring} {st : State} {xs : List Result} 
 
   byte-small : getD (st .queue .feed) 0 0 < 256
   unfolding byteFor
-  byte-small = rw byte-is at (g .bytes (Rattle.model.specs.File.sizesEnd f + coreAt s 0 .passed + coreAt s 0 .moved))
+  byte-small = rw byte-is at (g .bytes (Rattle.model.specs.File.sizesEnd f + (coreAt s 0 .passed + coreAt s 0 .moved)))
 
   store-moves : (y k : ℕ) → y < ringSize f
       → Joined f (accessed s core0 y false k (getD (st .queue .feed) 0 0) (next (st .trace))) st xs

@@ -205,7 +205,7 @@ module _ {f : List ℕ} (g : Good f) {s : Ring} {st : State} {xs : List Result} 
   unfolding mv.ownLoad
   own-ring v ev =
       let n : ℕ = getD (sizesOf f c) (coreAt s (num c) .batch) 0 in
-      let en = size-at g c (coreAt s (num c) .batch) more in
+      let en = size-at g c (coreAt s (num c) .batch) in
       let eo : newestOf (chosen (num c) (s .back) (s .front)) ≡ v = ap newestOf (chosen-is c (listOf s)) ∙ newest-is (r .list-is c) ∙ sym ev in
       let es = short-same r c n (newestOf (chosen (num c) (s .back) (s .front))) v (coreAt s (num c) .cached) (st .queue .side c .cached) eo (r .core-is c .cached-is) in
       cc (en, eo, es)

@@ -9,9 +9,7 @@ pub mod Loop
 pub mod Parts
 pub mod Rep
 pub mod ReportLaws
-pub mod Rows
 pub mod Step
-pub mod Sums
 pub mod Turn
 pub mod Verdict
 pub mod Walk

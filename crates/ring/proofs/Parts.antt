@@ -61,11 +61,10 @@ module _ {f : List ℕ} (g : Good f) where
   size-small core1 b =
       getD-take-small (popCount f) (drop (8 + pushCount f) f) (λ k. rw (getD-drop (8 + pushCount f) f k 0) (g .bytes (8 + pushCount f + k))) b
 
-  pub size-at : (c : Core) (b : ℕ) → b < length (sizesOf f c) → getD (sizesOf f c) b 0 ≡ sizeAt f (num c) b
-  unfolding pushSizes popSizes sizeAt
-  size-at core0 b h = getD-take (pushCount f) (drop 8 f) b 0 (omega (arith, sizes-length core0)) ∙ getD-drop 8 f b 0
-  size-at core1 b h =
-      getD-take (popCount f) (drop (8 + pushCount f) f) b 0 (omega (arith, sizes-length core1)) ∙ getD-drop (8 + pushCount f) f b 0
+  pub size-at : (c : Core) (b : ℕ) → getD (sizesOf f c) b 0 ≡ sizeAt f (num c) b
+  unfolding sizeAt
+  size-at core0 b = refl
+  size-at core1 b = refl
 
 -- The batches left, where there is one.
 pub batches-cons : (l : List ℕ) (b : ℕ) → b < length l → drop b l ≡ getD l b 0 ∷ drop (b + 1) l
@@ -77,9 +76,8 @@ unfolding pushBytes byteFor
 feed-at f a b h =
     let n : ℕ = total (pushSizes f) in
     let e : a + b + 0 ≡ a + b = omega arith in
-    let k : sizesEnd f + (a + b) ≡ sizesEnd f + a + b = omega arith in
     getD-drop (a + b) (take n (drop (sizesEnd f) f)) 0 0
-    ∙ rw e (getD-take n (drop (sizesEnd f) f) (a + b) 0 h ∙ getD-drop (sizesEnd f) f (a + b) 0 ∙ rw k)
+    ∙ rw e (getD-take n (drop (sizesEnd f) f) (a + b) 0 h ∙ getD-drop (sizesEnd f) f (a + b) 0)
 
 -- Phases
 

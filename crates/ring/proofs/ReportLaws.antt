@@ -1,37 +1,21 @@
 -- The report as it is written, one number after the other.
-use mathlib.Core.Path.{_≡_, refl, _∙_}
+use mathlib.Core.Path.{_≡_, refl, ap, sym, _∙_}
 use mathlib.Core.List.{List, [], _∷_, _++_, append-assoc}
-use Prim.Native.Nat.{ℕ, suc, _+_, _*_, _/_, _%_, _<_, _≤_}
+use Prim.Native.Nat.{ℕ, suc, _+_, _*_, _<_, _≤_}
 use native.Mathlib.Omega.{arith}
 use native.Mathlib.Numerals.{add-one}
-use lib.ListN.{getD, set, length, take, drop, length-append, length-drop, length-take}
-use lib.Seq.{take-suc, take-all, length-take-le}
+use lib.ListN.{getD, length, take, drop, length-append, length-drop, length-take}
+use lib.Seq.{take-suc, take-all, take-at, drop-at, drop-drop, length-take-le}
 use Rattle.model.specs.Report.{le4, bytesOf}
-use Rattle.ring.specs.computed.Report.{put4Of}
-use Rattle.ring.proofs.Buffers.{put-next}
-
--- The next place of a list is written, the place after it known by an equation.
-put-next-at : (p l : List ℕ) (i j v : ℕ) → length p ≡ i
-    → i < length l → j ≡ i + 1 → set (p ++ drop i l) i v ≡ (p ++ (v ∷ [])) ++ drop j l
-put-next-at p l i j v e h q = rw q (put-next p l i v e h)
+use Rattle.little.specs.Little.{put4Of}
+use Rattle.little.proofs.Written.{put-between}
 
 put4-next : (p l : List ℕ) (k x : ℕ) → length p ≡ k
     → k + 4 ≤ length l → put4Of (p ++ drop k l) k x ≡ (p ++ le4 x) ++ drop (k + 4) l
 put4-next p l k x e h =
-    let p1 = p ++ (x % 256 ∷ []) in
-    let p2 = p1 ++ (x / 256 % 256 ∷ []) in
-    let p3 = p2 ++ (x / 65536 % 256 ∷ []) in
-    let third : x / 256 / 256 ≡ x / 65536 = omega arith in
-    let fourth : x / 256 / 256 / 256 ≡ x / 16777216 = omega arith in
-    rw (
-      fourth,
-      third,
-      put-next-at p l k (k + 1) (x % 256) e (omega arith) refl,
-      put-next-at p1 l (k + 1) (k + 2) (x / 256 % 256) (simp length-append (omega arith)) (omega arith) (omega arith),
-      put-next-at p2 l (k + 2) (k + 3) (x / 65536 % 256) (simp length-append (omega arith)) (omega arith) (omega arith),
-      put-next-at p3 l (k + 3) (k + 4) (x / 16777216 % 256) (simp length-append (omega arith)) (omega arith) (omega arith),
-    )
-    (simp append-assoc)
+    let long : k + 4 ≤ length (p ++ drop k l) = simp (length-append, length-drop) (omega arith) in
+    let rest : drop (k + 4) (p ++ drop k l) ≡ drop (k + 4) l = sym (drop-drop 4 k (p ++ drop k l)) ∙ ap (drop 4) (drop-at p (drop k l) k e) ∙ drop-drop 4 k l in
+    put-between (p ++ drop k l) k x long ∙ rw (take-at p (drop k l) k e, rest) (sym (append-assoc p (le4 x) (drop (k + 4) l)))
 
 bytes-append : (xs ys : List ℕ) → bytesOf (xs ++ ys) ≡ bytesOf xs ++ bytesOf ys
 unfolding bytesOf

@@ -116,9 +116,6 @@ module _ {f : List ℕ} (g : Good f) {s : Ring} {st : State} {xs : List Result} 
   pub who-lt : w < 2
   who-lt = omega (arith, who, num-lt (v .c))
 
-  pub batch-lt : coreAt s w .batch < byteAt f (6 + w)
-  batch-lt = rw who (omega (arith, v .more, sizes-length g (v .c)))
-
   pub bounds : Bounded (coreAt s w)
   bounds = rw who (bounded g r (v .c) (v .more))
 
@@ -138,22 +135,6 @@ module _ {f : List ℕ} (g : Good f) {s : Ring} {st : State} {xs : List Result} 
 
   pub moved-lt : coreAt s w .phase ≡ 2 → coreAt s w .moved < 255
   moved-lt p = omega (arith, left p, bounds)
-
-  pub byte-lt : coreAt s w .phase ≡ 2 → w ≡ 0 → sizesEnd f + coreAt s w .passed + coreAt s w .moved < length f
-  unfolding scheduleAt
-  byte-lt p z = go (v .c) (who) (v .more) (left p .1) (left p .0)
-    where
-      go : (c : Core) → w ≡ num c → coreAt s (num c) .batch < length (sizesOf f c) → coreAt s w .size ≡ getD (sizesOf f c) (coreAt s w .batch) 0
-          → coreAt s w .moved < coreAt s w .size → sizesEnd f + coreAt s w .passed + coreAt s w .moved < length f
-      go core1 e m k l = absurd (omega arith)
-      go core0 e m k l =
-          let d = r .core-is core0 in
-          let ec : coreAt s w ≡ coreAt s 0 = ap (coreAt s) e in
-          let one-more = total-take-suc (pushSizes f) (coreAt s 0 .batch) m in
-          let all = total-take-le (pushSizes f) (suc (coreAt s 0 .batch)) in
-          let k′ : coreAt s 0 .size ≡ getD (pushSizes f) (coreAt s 0 .batch) 0 = rw ec at k in
-          let l′ : coreAt s 0 .moved < coreAt s 0 .size = rw ec at l in
-          rw ec (omega (arith, d .passed-is, g .ranges .bytes-in))
 
   pub count-lt : chosen w (s .back) (s .front) .count < 256
   count-lt =

@@ -1,12 +1,13 @@
 // The library that a C host calls: one entry, which plays a whole run file. All else is private to this crate.
 //
-// state: the machine's state. room: is there room? stores: the list of an index's stores. moves: what each action does to the state.
-// refusal: why an entry is refused. file: reading the run file, and its code. run: the run over all entries. report: the twelve numbers.
-mod file;
+// state: the machine's state. stores: the list of an index's stores. moves: what each action does to the state. refusal: why an entry is
+// refused. reads: what the machine reads of the run file. run: the run over all entries. report: the twelve numbers.
+//
+// Below it, in crates of their own: the room rule, the run file's parts and codes, numbers as bytes.
 mod moves;
+mod reads;
 mod refusal;
 mod report;
-mod room;
 mod run;
 mod state;
 mod stores;
@@ -24,11 +25,11 @@ pub extern "C" fn ferrulique_run(
 ) -> u32
     ensures { λ code. ⌜ Outcome (now (file .entry)) (now (marks .entry)) (now (out .entry)) (now (report .entry)) code (now (marks .exit)) (now (out .exit)) (now (report .exit)) ⌝ }
 {
-    let code = crate::file::code_of(file, marks.len(), out.len(), report.len());
+    let code = file::code::code_of(file, marks.len(), out.len(), report.len());
     if code != 0 {
         return code;
     }
-    let at = crate::file::schedule_at(file);
+    let at = file::parts::schedule_at(file);
     let n = (file.len() - at) / 2;
     let ran = crate::run::run(file, at, n, marks, out);
     let numbers = crate::report::numbers(ran, n as u32);

@@ -1,10 +1,9 @@
 // Why an entry is refused: decided before any move, so that a refused entry writes its mark and nothing else.
-use crate::file::batches;
 use crate::state::Core;
 use crate::state::Stores;
+use file::parts::pop_count;
+use file::parts::push_count;
 ghost use mathlib.Core.Path.{_≡_};
-ghost use Prim.Native.Nat.{_≤_};
-ghost use lib.ListN.{length};
 ghost use Rattle.ring.specs.computed.State.{Short};
 ghost use Rattle.ring.specs.computed.Refusal.{refusalOf, coreRefusal, loadRefusal};
 
@@ -18,7 +17,7 @@ pub(crate) fn refusal(
     back: Stores,
     front: Stores,
 ) -> u8
-    requires { ⌜ (8 ≤ length (now file)) × (Short back × Short front) ⌝ }
+    requires { ⌜ Short back × Short front ⌝ }
     ensures { λ r. ⌜ r ≡ refusalOf (now (file .entry)) core age race cores back front ⌝ }
 {
     if 1 < core {
@@ -28,9 +27,9 @@ pub(crate) fn refusal(
         return 130;
     }
     if core == 0 {
-        return core_refusal(age, batches(file, 0), cores[0], front);
+        return core_refusal(age, push_count(file), cores[0], front);
     }
-    core_refusal(age, batches(file, 1), cores[1], back)
+    core_refusal(age, pop_count(file), cores[1], back)
 }
 
 // Why an entry of this core is refused in a machine that runs.

@@ -1,7 +1,7 @@
 // The run over all entries of the schedule.
-use crate::file::byte_for;
-use crate::file::fresh_ring;
-use crate::file::size_of;
+use crate::reads::byte_for;
+use crate::reads::fresh_ring;
+use crate::reads::size_of;
 use crate::refusal::refusal;
 use crate::state::Ran;
 ghost use mathlib.Core.Path.{_≡_};

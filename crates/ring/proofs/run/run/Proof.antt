@@ -10,17 +10,18 @@ use Rattle.model.specs.computed.Machine.{step}
 use Rattle.ring.proofs.Parts.{ranges-of}
 use Rattle.ring.proofs.Rep.{size-pos, size-le, modulus-pos, modulus-le, short}
 use Rattle.ring.proofs.Join.{Joined}
-use Rattle.ring.proofs.Step.{own-arm, foreign-arm, data-arm, index-arm, who-lt, batch-lt, bounds, age-lt, moved-lt, byte-lt, count-lt}
+use Rattle.ring.proofs.Step.{own-arm, foreign-arm, data-arm, index-arm, who-lt, bounds, age-lt, moved-lt, count-lt}
 use Rattle.ring.proofs.Loop.{resultsTo, endTo}
 use Rattle.ring.proofs.Verdict.{Goes}
 use Rattle.ring.proofs.Turn.{Turning, entry-in, turning-none, refused-turns, goes-on, number-is, place-here, moved-turns, marks-length, out-length, few-performed, few-entries, all-turned}
+use borrow.Author.Needs.{needs}
 use Rattle.ring.proofs.run.run.Statement.{statement}
 use Rattle.ring.proofs.run.run.Tie as tie
 use Rattle.ring.proofs.run.run.Reads as reads
 use Rattle.ring.proofs.run.run.Lts as lts
-use Rattle.ring.proofs.file.byte_for.Reads as byte-for-reads
-use Rattle.ring.proofs.file.fresh_ring.Reads as fresh-ring-reads
-use Rattle.ring.proofs.file.size_of.Reads as size-of-reads
+use Rattle.ring.proofs.reads.byte_for.Reads as byte-for-reads
+use Rattle.ring.proofs.reads.fresh_ring.Reads as fresh-ring-reads
+use Rattle.ring.proofs.reads.size_of.Reads as size-of-reads
 use Rattle.ring.proofs.refusal.refusal.Reads as refusal-reads
 use Rattle.ring.proofs.run.keep_byte.Reads as keep-byte-reads
 use Rattle.ring.proofs.run.who_of.Reads as who-of-reads
@@ -39,7 +40,7 @@ abbrev claims : lts.Claims
 claims = (fresh-ring-reads.Asked, fresh-ring-reads.Learnt, who-of-reads.Asked, who-of-reads.Learnt, refusal-reads.Asked, refusal-reads.Learnt, size-of-reads.Asked, size-of-reads.Learnt, own-load-reads.Asked, own-load-reads.Learnt, foreign-load-reads.Asked, foreign-load-reads.Learnt, byte-for-reads.Asked, byte-for-reads.Learnt, data-access-reads.Asked, data-access-reads.Learnt, index-store-reads.Asked, index-store-reads.Learnt, keep-byte-reads.Asked, keep-byte-reads.Learnt)
 
 fresh-ring-requires : tie.Need-fresh-ring-requires Inv-loop μ-loop
-fresh-ring-requires c κs = omega (arith, ranges-of (c .before .before .before .pre .lawful))
+fresh-ring-requires c κs = search needs
 
 loop-holds : tie.Need-loop-holds Inv-loop μ-loop
 loop-holds c = turning-none {f = c .before .before .before .before .args .file .now} (λ k. omega (arith, c .before .before .before .shared-slice-known .given k)) (c .before .before .before .before .pre) (c .fresh-ring .result) (c .fresh-ring .ensures)
@@ -69,7 +70,7 @@ array-copy-out-c : tie.Need-array-copy-out-c Inv-loop μ-loop
 array-copy-out-c c = c .before .before .before .who-of .ensures .1
 
 refusal-requires : tie.Need-refusal-requires Inv-loop μ-loop
-refusal-requires c κs = (c .before .before .before .before .before .loop .inv .fine .ranges .header, (short (c .before .before .before .before .before .loop .inv .fine) (c .before .before .before .before .before .loop .inv .going .rep) core0, short (c .before .before .before .before .before .loop .inv .fine) (c .before .before .before .before .before .loop .inv .going .rep) core1))
+refusal-requires c κs = (short (c .before .before .before .before .before .loop .inv .fine) (c .before .before .before .before .before .loop .inv .going .rep) core0, short (c .before .before .before .before .before .loop .inv .fine) (c .before .before .before .before .before .loop .inv .going .rep) core1)
 
 slice-write-marks : tie.Need-slice-write-marks Inv-loop μ-loop
 slice-write-marks c = omega (arith, marks-length (c .before .before .before .before .before .before .before .loop .inv), c .before .before .before .before .before .before .before .loop .inv .ready .marks-fit, c .before .before .before .before .before .before .loop-test .taken)
@@ -94,7 +95,7 @@ goes : (c : lts.Else1 claims reads.Pre reads.Post Inv-loop μ-loop) → Goes (c 
 goes c = goes-on (c .before .before .before .before .before .before .before .loop .inv) (c .before .before .before .before .before .before .loop-test .taken) (getD (c .before .before .before .before .before .before .before .before .before .before .before .before .args .file .now) (c .before .before .before .before .before .before .before .before .before .before .before .before .args .at + 2 * c .before .before .before .before .before .before .before .loop .i) 0) (getD (c .before .before .before .before .before .before .before .before .before .before .before .before .args .file .now) (c .before .before .before .before .before .before .before .before .before .before .before .before .args .at + 2 * c .before .before .before .before .before .before .before .loop .i + 1) 0) (c .before .refusal .result) refl refl (c .before .refusal .ensures) (c .if1 .left)
 
 size-of-requires : tie.Need-size-of-requires Inv-loop μ-loop
-size-of-requires c κs = (batch-lt (c .before .before .before .before .before .before .before .before .before .loop .inv .fine) (c .before .before .before .before .before .before .before .before .before .loop .inv .going .rep) (getD (c .before .before .before .before .before .before .before .before .before .before .before .before .before .before .args .file .now) (c .before .before .before .before .before .before .before .before .before .before .before .before .before .before .args .at + 2 * c .before .before .before .before .before .before .before .before .before .loop .i) 0) (getD (c .before .before .before .before .before .before .before .before .before .before .before .before .before .before .args .file .now) (c .before .before .before .before .before .before .before .before .before .before .before .before .before .before .args .at + 2 * c .before .before .before .before .before .before .before .before .before .loop .i + 1) 0) (goes (c .before .before)) (c .before .before .before .before .before .who-of .result) (c .before .before .before .before .before .who-of .ensures .0), (who-lt (c .before .before .before .before .before .before .before .before .before .loop .inv .fine) (c .before .before .before .before .before .before .before .before .before .loop .inv .going .rep) (getD (c .before .before .before .before .before .before .before .before .before .before .before .before .before .before .args .file .now) (c .before .before .before .before .before .before .before .before .before .before .before .before .before .before .args .at + 2 * c .before .before .before .before .before .before .before .before .before .loop .i) 0) (getD (c .before .before .before .before .before .before .before .before .before .before .before .before .before .before .args .file .now) (c .before .before .before .before .before .before .before .before .before .before .before .before .before .before .args .at + 2 * c .before .before .before .before .before .before .before .before .before .loop .i + 1) 0) (goes (c .before .before)) (c .before .before .before .before .before .who-of .result) (c .before .before .before .before .before .who-of .ensures .0), (c .before .before .before .before .before .before .before .before .before .loop .inv .fine .ranges .header, c .before .before .before .before .before .before .before .before .before .loop .inv .fine .ranges .sizes-in)))
+size-of-requires c κs = search needs
 
 own-load-requires : tie.Need-own-load-requires Inv-loop μ-loop
 own-load-requires c κs = (who-lt (c .before .before .before .before .before .before .before .before .before .before .loop .inv .fine) (c .before .before .before .before .before .before .before .before .before .before .loop .inv .going .rep) (getD (c .before .before .before .before .before .before .before .before .before .before .before .before .before .before .before .args .file .now) (c .before .before .before .before .before .before .before .before .before .before .before .before .before .before .before .args .at + 2 * c .before .before .before .before .before .before .before .before .before .before .loop .i) 0) (getD (c .before .before .before .before .before .before .before .before .before .before .before .before .before .before .before .args .file .now) (c .before .before .before .before .before .before .before .before .before .before .before .before .before .before .before .args .at + 2 * c .before .before .before .before .before .before .before .before .before .before .loop .i + 1) 0) (goes (c .before .before .before)) (c .before .before .before .before .before .before .who-of .result) (c .before .before .before .before .before .before .who-of .ensures .0), (short (c .before .before .before .before .before .before .before .before .before .before .loop .inv .fine) (c .before .before .before .before .before .before .before .before .before .before .loop .inv .going .rep) core0, short (c .before .before .before .before .before .before .before .before .before .before .loop .inv .fine) (c .before .before .before .before .before .before .before .before .before .before .loop .inv .going .rep) core1))
@@ -103,7 +104,7 @@ foreign-load-requires : tie.Need-foreign-load-requires Inv-loop μ-loop
 foreign-load-requires c κs = (who-lt (c .before .before .before .before .before .before .before .before .before .loop .inv .fine) (c .before .before .before .before .before .before .before .before .before .loop .inv .going .rep) (getD (c .before .before .before .before .before .before .before .before .before .before .before .before .before .before .args .file .now) (c .before .before .before .before .before .before .before .before .before .before .before .before .before .before .args .at + 2 * c .before .before .before .before .before .before .before .before .before .loop .i) 0) (getD (c .before .before .before .before .before .before .before .before .before .before .before .before .before .before .args .file .now) (c .before .before .before .before .before .before .before .before .before .before .before .before .before .before .args .at + 2 * c .before .before .before .before .before .before .before .before .before .loop .i + 1) 0) (goes (c .before .before)) (c .before .before .before .before .before .who-of .result) (c .before .before .before .before .before .who-of .ensures .0), (age-lt (c .before .before .before .before .before .before .before .before .before .loop .inv .fine) (c .before .before .before .before .before .before .before .before .before .loop .inv .going .rep) (getD (c .before .before .before .before .before .before .before .before .before .before .before .before .before .before .args .file .now) (c .before .before .before .before .before .before .before .before .before .before .before .before .before .before .args .at + 2 * c .before .before .before .before .before .before .before .before .before .loop .i) 0) (getD (c .before .before .before .before .before .before .before .before .before .before .before .before .before .before .args .file .now) (c .before .before .before .before .before .before .before .before .before .before .before .before .before .before .args .at + 2 * c .before .before .before .before .before .before .before .before .before .loop .i + 1) 0) (goes (c .before .before)) (c .before .before .before .before .before .who-of .result) (c .before .before .before .before .before .who-of .ensures .0) (c .match .keys2), (short (c .before .before .before .before .before .before .before .before .before .loop .inv .fine) (c .before .before .before .before .before .before .before .before .before .loop .inv .going .rep) core0, (short (c .before .before .before .before .before .before .before .before .before .loop .inv .fine) (c .before .before .before .before .before .before .before .before .before .loop .inv .going .rep) core1, bounds (c .before .before .before .before .before .before .before .before .before .loop .inv .fine) (c .before .before .before .before .before .before .before .before .before .loop .inv .going .rep) (getD (c .before .before .before .before .before .before .before .before .before .before .before .before .before .before .args .file .now) (c .before .before .before .before .before .before .before .before .before .before .before .before .before .before .args .at + 2 * c .before .before .before .before .before .before .before .before .before .loop .i) 0) (getD (c .before .before .before .before .before .before .before .before .before .before .before .before .before .before .args .file .now) (c .before .before .before .before .before .before .before .before .before .before .before .before .before .before .args .at + 2 * c .before .before .before .before .before .before .before .before .before .loop .i + 1) 0) (goes (c .before .before)) (c .before .before .before .before .before .who-of .result) (c .before .before .before .before .before .who-of .ensures .0)))))
 
 byte-for-requires : tie.Need-byte-for-requires Inv-loop μ-loop
-byte-for-requires c κs = (c .before .before .before .before .before .before .before .before .before .loop .inv .fine .ranges .header, byte-lt (c .before .before .before .before .before .before .before .before .before .loop .inv .fine) (c .before .before .before .before .before .before .before .before .before .loop .inv .going .rep) (getD (c .before .before .before .before .before .before .before .before .before .before .before .before .before .before .args .file .now) (c .before .before .before .before .before .before .before .before .before .before .before .before .before .before .args .at + 2 * c .before .before .before .before .before .before .before .before .before .loop .i) 0) (getD (c .before .before .before .before .before .before .before .before .before .before .before .before .before .before .args .file .now) (c .before .before .before .before .before .before .before .before .before .before .before .before .before .before .args .at + 2 * c .before .before .before .before .before .before .before .before .before .loop .i + 1) 0) (goes (c .before .before)) (c .before .before .before .before .before .who-of .result) (c .before .before .before .before .before .who-of .ensures .0) (c .match .keys3))
+byte-for-requires c κs = search needs
 
 data-access-requires : tie.Need-data-access-requires Inv-loop μ-loop
 data-access-requires c κs = (who-lt (c .before .before .before .before .before .before .before .before .before .before .loop .inv .fine) (c .before .before .before .before .before .before .before .before .before .before .loop .inv .going .rep) (getD (c .before .before .before .before .before .before .before .before .before .before .before .before .before .before .before .args .file .now) (c .before .before .before .before .before .before .before .before .before .before .before .before .before .before .before .args .at + 2 * c .before .before .before .before .before .before .before .before .before .before .loop .i) 0) (getD (c .before .before .before .before .before .before .before .before .before .before .before .before .before .before .before .args .file .now) (c .before .before .before .before .before .before .before .before .before .before .before .before .before .before .before .args .at + 2 * c .before .before .before .before .before .before .before .before .before .before .loop .i + 1) 0) (goes (c .before .before .before)) (c .before .before .before .before .before .before .who-of .result) (c .before .before .before .before .before .before .who-of .ensures .0), (size-pos (c .before .before .before .before .before .before .before .before .before .before .loop .inv .fine) (c .before .before .before .before .before .before .before .before .before .before .loop .inv .going .rep), (size-le (c .before .before .before .before .before .before .before .before .before .before .loop .inv .fine) (c .before .before .before .before .before .before .before .before .before .before .loop .inv .going .rep), moved-lt (c .before .before .before .before .before .before .before .before .before .before .loop .inv .fine) (c .before .before .before .before .before .before .before .before .before .before .loop .inv .going .rep) (getD (c .before .before .before .before .before .before .before .before .before .before .before .before .before .before .before .args .file .now) (c .before .before .before .before .before .before .before .before .before .before .before .before .before .before .before .args .at + 2 * c .before .before .before .before .before .before .before .before .before .before .loop .i) 0) (getD (c .before .before .before .before .before .before .before .before .before .before .before .before .before .before .before .args .file .now) (c .before .before .before .before .before .before .before .before .before .before .before .before .before .before .before .args .at + 2 * c .before .before .before .before .before .before .before .before .before .before .loop .i + 1) 0) (goes (c .before .before .before)) (c .before .before .before .before .before .before .who-of .result) (c .before .before .before .before .before .before .who-of .ensures .0) (c .before .match .keys3))))

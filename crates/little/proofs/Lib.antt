@@ -1,0 +1,2 @@
+-- The crate's laws and proofs, file by file.
+pub mod Written
