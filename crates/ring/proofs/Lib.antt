@@ -7,6 +7,7 @@ pub mod Kept
 pub mod Lists
 pub mod Loop
 pub mod Parts
+pub mod Played
 pub mod Rep
 pub mod ReportLaws
 pub mod Step
