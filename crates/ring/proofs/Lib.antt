@@ -5,12 +5,14 @@ pub mod Data
 pub mod Join
 pub mod Kept
 pub mod Lists
+pub mod Loads
 pub mod Loop
 pub mod Parts
 pub mod Played
 pub mod Rep
 pub mod ReportLaws
 pub mod Step
+pub mod Stored
 pub mod Turn
 pub mod Verdict
 pub mod Walk

@@ -22,7 +22,9 @@ use Rattle.ring.specs.computed.Run.{whoOf}
 use Rattle.ring.specs.computed.Moves as mv
 use Rattle.ring.proofs.Parts.{num, sizesOf, Good, sizes-few, sizes-length, phaseOf, progress}
 use Rattle.ring.proofs.Rep.{listOf, Rep, bounded}
-use Rattle.ring.proofs.Join.{Joined, chosen-is, chosen-other, own-joined, foreign-joined, index-joined}
+use Rattle.ring.proofs.Join.{Joined, chosen-is, chosen-other}
+use Rattle.ring.proofs.Loads.{own-joined, foreign-joined}
+use Rattle.ring.proofs.Stored.{index-joined}
 use Rattle.ring.proofs.Data.{store-joined, load-joined}
 use Rattle.ring.proofs.Verdict.{phase-reload, Goes}
 
