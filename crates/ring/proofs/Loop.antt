@@ -85,6 +85,7 @@ fresh-listed M pos c = record {
   entry-is = only;
   value-is = λ j h. let e : 1 - 1 - j ≡ 0 = omega arith in rw e refl;
   below = λ j h. let e : 1 - 1 - j ≡ 0 = omega arith in rw e pos;
+  beside = record { value-is = refl; entry-is = refl };
 }
   where
     only : (j : ℕ) → j < 1 → getElem? (stores [] (index 0 c)) j ≡ some (getD (replicate 256 0) (1 - 1 - j) 0)

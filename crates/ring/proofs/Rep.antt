@@ -111,6 +111,7 @@ pub short : {f : List ℕ} {s : Ring} {st : State} {xs : List Result} → Good f
 short {f} {s} g r c = record {
   some = listed-some (r .list-is c);
   few = omega (arith, r .list-few c, r .core-is c .batch-le, sizes-few g c);
+  beside = r .list-is c .beside;
 }
 
 pub bounded : {f : List ℕ} {s : Ring} {st : State} {xs : List Result} → Good f → Rep f s st xs → (c : Core)
