@@ -8,10 +8,11 @@ use Prim.Native.Nat.{ℕ, zero, suc, _+_, _*_, _-_, _<_, _≤_}
 use native.Mathlib.Omega.{arith}
 use native.Mathlib.Numerals.{add-one}
 use lib.Dec.{eqb}
-use lib.ListN.{getD, set, length, take, drop, length-append, length-map, length-drop, replicate, length-replicate, getD-replicate, getElem?}
+use lib.ListN.{getD, set, length, take, drop, length-map, length-set, replicate, length-replicate, getD-replicate, getElem?}
 use lib.Seq.{take-all, length-take-le, take-length}
 use borrow.Author.Tests.{lt-leb}
 use Rattle.order.specs.Trace.{Core, core0, core1, index, stores}
+use Rattle.order.proofs.Trace.{cond-elim}
 use Rattle.model.specs.File.{byteAt, ringSize, modulusOf, total, popSizes, scheduleAt, scheduleOf, Entry}
 use Rattle.model.specs.Marks.{dataLoaded, raceFound, noSuchCore}
 use Rattle.model.specs.Queue.{Shape}
@@ -157,18 +158,17 @@ fresh-rep {f} g = record {
 
 -- One byte more in out.
 byte-put : (q q′ out out₀ : List ℕ) (k v : ℕ) → out ≡ q ++ drop k out₀ → k ≡ length q → q′ ≡ q ++ (v ∷ []) → k < length out₀
-    → (set out k v ≡ q′ ++ drop (k + 1) out₀) × (k + 1 ≡ length q′)
-byte-put q q′ out out₀ k v e ek eq h = (
-  ap (λ (l : List ℕ). set l k v) e ∙ put-next q out₀ k v (sym ek) h ∙ rw eq refl,
-  sym (ap length eq ∙ length-more q v ∙ omega (arith, ek)),
-)
+    → set out k v ≡ q′ ++ drop (k + 1) out₀
+byte-put q q′ out out₀ k v e ek eq h = ap (λ (l : List ℕ). set l k v) e ∙ put-next q out₀ k v (sym ek) h ∙ rw eq refl
 
--- After i entries: the ring, the entries performed, the place in out, and the two buffers.
+-- After i entries: the ring, the entries performed, the place in out, and the two buffers, where they are long enough.
 pub record Going (f : List ℕ) (marks₀ out₀ marks out : List ℕ) (s : Ring) (performed k i : ℕ) : Type 0 where
   pub rep : Rep f s (endTo f i) (resultsTo f i)
   pub inside : i ≤ length (scheduleOf f)
-  pub marks-are : marks ≡ marksOf (resultsTo f i) ++ drop i marks₀
-  pub out-is : out ≡ endTo f i .queue .out ++ drop k out₀
+  pub marks-same : length marks ≡ length marks₀
+  pub out-same : length out ≡ length out₀
+  pub marks-are : length (scheduleOf f) ≤ length marks₀ → marks ≡ marksOf (resultsTo f i) ++ drop i marks₀
+  pub out-is : total (popSizes f) ≤ length out₀ → out ≡ endTo f i .queue .out ++ drop k out₀
   pub place-is : k ≡ length (endTo f i .queue .out)
   pub performed-is : performed ≡ count entryPerformed (resultsTo f i)
 
@@ -176,14 +176,13 @@ pub going-none : {f : List ℕ} → Good f → (marks out : List ℕ) → Going 
 going-none g marks out = record {
   rep = fresh-rep g;
   inside = omega arith;
-  marks-are = refl;
-  out-is = refl;
+  marks-same = refl;
+  out-same = refl;
+  marks-are = λ _. refl;
+  out-is = λ _. refl;
   place-is = refl;
   performed-is = refl;
 }
-
-written-length : (p m : List ℕ) (n : ℕ) → length p ≡ n → n ≤ length m → length (p ++ drop n m) ≡ length m
-written-length p m n e h = length-append p (drop n m) ∙ omega (arith, length-drop n m)
 
 marks-length : (f : List ℕ) (i : ℕ) → i ≤ length (scheduleOf f) → length (marksOf (resultsTo f i)) ≡ i
 marks-length f i h =
@@ -200,14 +199,7 @@ pub out-long : {f : List ℕ} → Good f → {marks₀ out₀ marks out : List �
     → k ≤ total (popSizes f)
 out-long g z = omega (arith, z .place-is, out-bound g (z .rep))
 
-module _ {f : List ℕ} (g : Good f) {marks₀ out₀ marks out : List ℕ} {s : Ring} {performed k i : ℕ} (z : Going f marks₀ out₀ marks out s performed k i)
-    (fit : length (scheduleOf f) ≤ length marks₀) (fits : total (popSizes f) ≤ length out₀) where
-  pub marks-same : length marks ≡ length marks₀
-  marks-same = ap length (z .marks-are) ∙ written-length (marksOf (resultsTo f i)) marks₀ i (marks-length f i (z .inside)) (omega (arith, z .inside))
-
-  pub out-same : length out ≡ length out₀
-  out-same = ap length (z .out-is) ∙ written-length (endTo f i .queue .out) out₀ k (sym (z .place-is)) (omega (arith, out-long g z))
-
+module _ {f : List ℕ} (g : Good f) {marks₀ out₀ marks out : List ℕ} {s : Ring} {performed k i : ℕ} (z : Going f marks₀ out₀ marks out s performed k i) where
   pub performed-le : performed ≤ i
   performed-le =
       let e = performed-and-refused (resultsTo f i) in
@@ -223,9 +215,10 @@ module _ {f : List ℕ} (g : Good f) {marks₀ out₀ marks out : List ℕ} {s :
         ∙ ap (λ (e : Entry). after (endTo f i) (step (shapeOf f) (endTo f i) e)) (entry-is g i more)
 
     -- One mark more.
-    mark-put : (x : Result) (v : ℕ) → x .mark ≡ v → set marks i v ≡ marksOf (resultsTo f i ++ (x ∷ [])) ++ drop (i + 1) marks₀
-    mark-put x v e =
-        ap (λ (l : List ℕ). set l i v) (z .marks-are)
+    mark-put : (x : Result) (v : ℕ) → x .mark ≡ v → length (scheduleOf f) ≤ length marks₀
+        → set marks i v ≡ marksOf (resultsTo f i ++ (x ∷ [])) ++ drop (i + 1) marks₀
+    mark-put x v e fit =
+        ap (λ (l : List ℕ). set l i v) (z .marks-are fit)
         ∙ put-next (marksOf (resultsTo f i)) marks₀ i v (marks-length f i (z .inside)) (omega arith)
         ∙ ap (λ (l : List ℕ). l ++ drop (i + 1) marks₀) (sym (marks-more (resultsTo f i) x ∙ ap (λ (n : ℕ). marksOf (resultsTo f i) ++ (n ∷ [])) e))
 
@@ -249,7 +242,9 @@ module _ {f : List ℕ} (g : Good f) {marks₀ out₀ marks out : List ℕ} {s :
             record {
               rep = rw (er, ee) (refused-kept (z .rep) mark l);
               inside = more;
-              marks-are = rw (er, ← (add-one i)) (mark-put x mark refl);
+              marks-same = length-set marks i mark ∙ z .marks-same;
+              out-same = z .out-same;
+              marks-are = λ fit. rw (er, ← (add-one i)) (mark-put x mark refl fit);
               out-is = rw ee (z .out-is);
               place-is = rw ee (z .place-is);
               performed-is = rw er (z .performed-is ∙ sym (count-more entryPerformed (resultsTo f i) x ∙ rw (lt-leb mark raceFound (omega arith)) (omega arith)));
@@ -261,31 +256,30 @@ module _ {f : List ℕ} (g : Good f) {marks₀ out₀ marks out : List ℕ} {s :
     going-moved {s′} j = rw (add-one i) (record {
       rep = rw (more-results, more-end) (j .rep);
       inside = more;
-      marks-are = rw (more-results, ← (add-one i)) (mark-put (step (shapeOf f) (endTo f i) (entryAt f i)) (s′ .mark) (sym (j .mark-is)));
-      out-is = rw more-end (written (eqb (s′ .mark) 5) refl .0);
+      marks-same = length-set marks i (s′ .mark) ∙ z .marks-same;
+      out-same = cond-elim (λ (l : List ℕ). length l ≡ length out₀) (eqb (s′ .mark) 5) (set out k (s′ .byte)) out
+          (λ _. length-set out k (s′ .byte) ∙ z .out-same) (λ _. z .out-same);
+      marks-are = λ fit. rw (more-results, ← (add-one i)) (mark-put (step (shapeOf f) (endTo f i) (entryAt f i)) (s′ .mark) (sym (j .mark-is)) fit);
+      out-is = λ fits. rw more-end (written (eqb (s′ .mark) 5) refl .0 fits);
       place-is = rw more-end (written (eqb (s′ .mark) 5) refl .1);
       performed-is = rw more-results (ap (λ (n : ℕ). n + 1) (z .performed-is) ∙ sym (count-more entryPerformed (resultsTo f i) (step (shapeOf f) (endTo f i) (entryAt f i)) ∙ rw (j .performs)));
     })
       where
         written : (b : Bool) → eqb (s′ .mark) 5 ≡ b
-            → (cond b (set out k (s′ .byte)) out ≡ (step (shapeOf f) (endTo f i) (entryAt f i)) .queue .out ++ drop (cond b (k + 1) k) out₀)
+            → (total (popSizes f) ≤ length out₀
+            → cond b (set out k (s′ .byte)) out ≡ (step (shapeOf f) (endTo f i) (entryAt f i)) .queue .out ++ drop (cond b (k + 1) k) out₀)
             × (cond b (k + 1) k ≡ length ((step (shapeOf f) (endTo f i) (entryAt f i)) .queue .out))
         written true e =
             let q′ : (step (shapeOf f) (endTo f i) (entryAt f i)) .queue .out ≡ endTo f i .queue .out ++ (s′ .byte ∷ []) = j .out-is ∙ rw e in
             let l : length ((step (shapeOf f) (endTo f i) (entryAt f i)) .queue .out) ≤ total (popSizes f) = out-bound g (j .rep) in
-            let n = ap length q′ ∙ length-more (endTo f i .queue .out) (s′ .byte) in
-            byte-put (endTo f i .queue .out) ((step (shapeOf f) (endTo f i) (entryAt f i)) .queue .out) out out₀ k (s′ .byte) (z .out-is) (z .place-is) q′ (omega (arith, z .place-is))
+            let n = ap length q′ ∙ length-more (endTo f i .queue .out) (s′ .byte) in (
+              λ fits. byte-put (endTo f i .queue .out) ((step (shapeOf f) (endTo f i) (entryAt f i)) .queue .out) out out₀ k (s′ .byte) (z .out-is fits) (z .place-is) q′
+                  (omega (arith, z .place-is)),
+              sym (n ∙ omega (arith, z .place-is)),
+            )
         written false e =
             let q′ : (step (shapeOf f) (endTo f i) (entryAt f i)) .queue .out ≡ endTo f i .queue .out = j .out-is ∙ rw e (sym (no-more (endTo f i .queue .out))) in
-            (z .out-is ∙ ap (λ (l : List ℕ). l ++ drop k out₀) (sym q′), z .place-is ∙ ap length (sym q′))
-
-  -- A data load has a place in out.
-  pub place-lt : {s′ : Ring} → Joined f s′ (endTo f i) (resultsTo f i) (step (shapeOf f) (endTo f i) (entryAt f i)) → s′ .mark ≡ 5 → k < length out
-  place-lt {s′} j e =
-      let q′ : (step (shapeOf f) (endTo f i) (entryAt f i)) .queue .out ≡ endTo f i .queue .out ++ (s′ .byte ∷ []) = j .out-is ∙ rw e refl in
-      let l : length ((step (shapeOf f) (endTo f i) (entryAt f i)) .queue .out) ≤ total (popSizes f) = out-bound g (j .rep) in
-      let n = ap length q′ ∙ length-more (endTo f i .queue .out) (s′ .byte) in
-      omega (arith, z .place-is, out-same)
+            (λ fits. z .out-is fits ∙ ap (λ (l : List ℕ). l ++ drop k out₀) (sym q′), z .place-is ∙ ap length (sym q′))
 
 -- The entries tried are those performed and those refused.
 counted : {f : List ℕ} {marks₀ out₀ marks out : List ℕ} {s : Ring} {performed k i : ℕ} → Going f marks₀ out₀ marks out s performed k i
@@ -294,8 +288,11 @@ counted {f} {i = i} z =
     let e = performed-and-refused (resultsTo f i) in
     omega (arith, z .performed-is, tried z)
 
-pops-all : (f : List ℕ) → total (take (length (popSizes f)) (popSizes f)) ≡ total (popSizes f)
-pops-all f = ap total (take-length (popSizes f))
+-- The pops of a file have at most 65,025 bytes.
+pub pops-few : {f : List ℕ} → Good f → total (popSizes f) < 65536
+pops-few {f} g =
+    let all : total (take (length (popSizes f)) (popSizes f)) ≡ total (popSizes f) = ap total (take-length (popSizes f)) in
+    omega (arith, total-small (popSizes f) (length (popSizes f)) (size-small g core1), sizes-few g core1)
 
 -- The code's numbers are the definition's.
 told-numbers : {f : List ℕ} → Good f → {marks₀ out₀ marks out : List ℕ} {s : Ring} {performed k i : ℕ} → Going f marks₀ out₀ marks out s performed k i
@@ -325,12 +322,12 @@ finished {f} g {marks₀} {out₀} {marks} {out} {s} {performed} {k} {i} z past 
     let eE : endTo f i ≡ endOf f = ap (ends (shapeOf f) (fresh f)) all in
     let numbers = told-numbers g z n (sym ei) in
     rw er (record {
-      marks-are = rw (← eR, ← ei) (z .marks-are);
-      out-is = rw (← eE, ← (z .place-is)) (z .out-is);
+      marks-are = λ fit. rw (← eR, ← ei) (z .marks-are (omega (arith, fit)));
+      out-is = λ fits. rw (← eE, ← (z .place-is)) (z .out-is fits);
       numbers-are = rw (← eR, ← eE) numbers;
       countable = record {
         performed-le = omega (arith, counted z);
-        loads-lt = omega (arith, out-long g z, total-small (popSizes f) (length (popSizes f)) (size-small g core1), sizes-few g core1, pops-all f);
+        loads-lt = omega (arith, out-long g z, pops-few g);
         reckonable = record {
           back-short = short g (z .rep) core0;
           front-short = short g (z .rep) core1;

@@ -16,12 +16,12 @@ use Rattle.ring.specs.computed.Run.{nextPlace, putByte, Ready, Finished}
 use Rattle.ring.proofs.Parts.{Good, good}
 use Rattle.ring.proofs.Join.{Joined}
 use Rattle.ring.proofs.Verdict.{answer, Goes, verdict}
-use Rattle.ring.proofs.Loop.{resultsTo, endTo, entryAt, Going, tried, going-none, going-refused, going-moved, marks-same, out-same, performed-le, place-lt, finished}
+use Rattle.ring.proofs.Loop.{resultsTo, endTo, entryAt, Going, tried, going-none, going-refused, going-moved, out-long, pops-few, performed-le, finished}
 
--- THE LOOP'S INVARIANT: a lawful file of bytes, buffers that are long enough, and the run so far.
+-- THE LOOP'S INVARIANT: a lawful file of bytes, and the run so far.
 pub record Turning (f : List ℕ) (at n : ℕ) (marks₀ out₀ marks out : List ℕ) (s : Ring) (performed k i : ℕ) : Type 0 where
   pub fine : Good f
-  pub ready : Ready f at n (length marks₀) (length out₀)
+  pub ready : Ready f at n
   pub going : Going f marks₀ out₀ marks out s performed k i
 
 -- An entry's two bytes lie in the file.
@@ -35,7 +35,7 @@ entry-in {f} {at} {n} {i = i} z h =
     (omega (arith, z .fine .ranges .bytes-in), z .fine .ranges .bounded)
 
 -- Before the first entry.
-pub turning-none : {f : List ℕ} {at n : ℕ} {marks out : List ℕ} → ((k : ℕ) → byteAt f k < 256) → Ready f at n (length marks) (length out)
+pub turning-none : {f : List ℕ} {at n : ℕ} {marks out : List ℕ} → ((k : ℕ) → byteAt f k < 256) → Ready f at n
     → (s : Ring) → s ≡ freshOf f → Turning f at n marks out marks out s 0 0 0
 turning-none {f} {marks = marks} {out = out} bytes ready s e =
     let g = good f (ready .lawful) bytes in
@@ -45,9 +45,6 @@ turning-none {f} {marks = marks} {out = out} bytes ready s e =
 module _ {f : List ℕ} {at n : ℕ} {marks₀ out₀ marks out : List ℕ} {s : Ring} {performed k i : ℕ} (z : Turning f at n marks₀ out₀ marks out s performed k i)
     (more : i < n) (core age v : ℕ) (ec : core ≡ getD f (at + 2 * i) 0) (ea : age ≡ getD f (at + 2 * i + 1) 0)
     (ev : v ≡ answer f s core age) where
-  fits : length (scheduleOf f) ≤ length marks₀
-  fits = omega (arith, z .ready .marks-fit, z .ready .n-is)
-
   left : i < length (scheduleOf f)
   left = omega (arith, z .ready .n-is)
 
@@ -59,11 +56,11 @@ module _ {f : List ℕ} {at n : ℕ} {marks₀ out₀ marks out : List ℕ} {s :
       let e : at + 2 * i + 1 ≡ scheduleAt f + (2 * i + 1) = omega (arith, z .ready .at-is) in
       ea ∙ ap (λ (j : ℕ). getD f j 0) e
 
-  pub refused-turns : ¬ (v ≡ 0) → Turning f at n marks₀ out₀ (set marks i v) out s performed k (i + 1)
-  refused-turns h = record {
+  pub refused-turns : ¬ (v ≡ 0) → (marks′ : List ℕ) → marks′ ≡ set marks i v → Turning f at n marks₀ out₀ marks′ out s performed k (i + 1)
+  refused-turns h marks′ em = record {
     fine = z .fine;
     ready = z .ready;
-    going = going-refused (z .fine) (z .going) fits (z .ready .out-fits) left v (ev ∙ rw (the-core, the-age) refl) h;
+    going = rw em (going-refused (z .fine) (z .going) left v (ev ∙ rw (the-core, the-age) refl) h);
   }
 
   pub goes-on : v ≡ 0 → Goes f s (endTo f i) core age
@@ -82,15 +79,12 @@ module _ {f : List ℕ} {at n : ℕ} {marks₀ out₀ marks out : List ℕ} {s :
     joined-here : Joined f s′ (endTo f i) (resultsTo f i) (step (shapeOf f) (endTo f i) (entryAt f i))
     joined-here = rw (the-core, the-age) at j
 
-    pub place-here : s′ .mark ≡ 5 → k < length out
-    place-here e = place-lt (z .fine) (z .going) fits (z .ready .out-fits) joined-here e
-
-    pub moved-turns : (out′ : List ℕ) (k′ : ℕ) → out′ ≡ putByte out k (s′ .mark) (s′ .byte) → k′ ≡ nextPlace k (s′ .mark)
-        → Turning f at n marks₀ out₀ (set marks i (s′ .mark)) out′ s′ (performed + 1) k′ (i + 1)
-    moved-turns out′ k′ eo ek = record {
+    pub moved-turns : (marks′ out′ : List ℕ) (k′ : ℕ) → marks′ ≡ set marks i (s′ .mark) → out′ ≡ putByte out k (s′ .mark) (s′ .byte)
+        → k′ ≡ nextPlace k (s′ .mark) → Turning f at n marks₀ out₀ marks′ out′ s′ (performed + 1) k′ (i + 1)
+    moved-turns marks′ out′ k′ em eo ek = record {
       fine = z .fine;
       ready = z .ready;
-      going = rw (eo, ek) (going-moved (z .fine) (z .going) fits (z .ready .out-fits) left joined-here);
+      going = rw (em, eo, ek) (going-moved (z .fine) (z .going) left joined-here);
     }
 
 after-header : (f : List ℕ) → 8 ≤ scheduleAt f
@@ -99,17 +93,18 @@ after-header f = omega arith
 
 -- The buffers keep their lengths, and there are no more entries performed than tried.
 module _ {f : List ℕ} {at n : ℕ} {marks₀ out₀ marks out : List ℕ} {s : Ring} {performed k i : ℕ} (z : Turning f at n marks₀ out₀ marks out s performed k i) where
-  fit : length (scheduleOf f) ≤ length marks₀
-  fit = omega (arith, z .ready .marks-fit, z .ready .n-is)
-
   pub marks-length : length marks ≡ length marks₀
-  marks-length = marks-same (z .fine) (z .going) fit (z .ready .out-fits)
+  marks-length = z .going .marks-same
 
   pub out-length : length out ≡ length out₀
-  out-length = out-same (z .fine) (z .going) fit (z .ready .out-fits)
+  out-length = z .going .out-same
+
+  -- The place in out is at most the sum of the pop sizes.
+  pub place-lt : k < 65536
+  place-lt = omega (arith, out-long (z .fine) (z .going), pops-few (z .fine))
 
   pub few-performed : performed ≤ i
-  few-performed = performed-le (z .fine) (z .going) fit (z .ready .out-fits)
+  few-performed = performed-le (z .fine) (z .going)
 
   -- At most 32,764 entries.
   pub few-entries : n ≤ 32764

@@ -4,15 +4,16 @@ use crate::reads::fresh_ring;
 use crate::reads::size_of;
 use crate::refusal::refusal;
 use crate::state::Ran;
+use little::put1;
 ghost use mathlib.Core.Path.{_≡_};
 ghost use Prim.Native.Nat.{_<_};
-ghost use lib.ListN.{length};
 ghost use Rattle.ring.specs.computed.Run.{whoOf, nextPlace, putByte, Ready, Finished};
 
 // Each entry in turn: refused with its mark, or the move that its core's phase chooses. Each arm hands the state back to where it was, so that
-// the compiler copies no part of it but what the move changes.
+// the compiler copies no part of it but what the move changes. A mark or a byte is written only where the buffer has a place for it: who asks
+// only for the numbers lends none.
 pub(crate) fn run(file: &[u8], at: usize, n: usize, marks: &mut [u8], out: &mut [u8]) -> Ran
-    requires { ⌜ Ready (now file) at n (length (now marks)) (length (now out)) ⌝ }
+    requires { ⌜ Ready (now file) at n ⌝ }
     ensures { λ r. ⌜ Finished (now (file .entry)) n (now (marks .entry)) (now (out .entry)) r (now (marks .exit)) (now (out .exit)) ⌝ }
 {
     let mut ring = fresh_ring(file);
@@ -27,7 +28,7 @@ pub(crate) fn run(file: &[u8], at: usize, n: usize, marks: &mut [u8], out: &mut 
         let cores = ring.cores;
         let no = refusal(file, core, age, ring.race, cores, ring.back, ring.front);
         if no != 0 {
-            marks[i] = no;
+            put1(marks, i, no);
             i += 1;
             continue;
         }
@@ -48,7 +49,7 @@ pub(crate) fn run(file: &[u8], at: usize, n: usize, marks: &mut [u8], out: &mut 
                 ring = ring.index_store(who, entry);
             }
         }
-        marks[i] = ring.mark;
+        put1(marks, i, ring.mark);
         k = keep_byte(out, k, ring.mark, ring.byte);
         performed += 1;
         i += 1;
@@ -72,11 +73,11 @@ fn who_of(core: u8) -> usize
 
 // The byte of a data load goes to the next place of out.
 fn keep_byte(out: &mut [u8], k: usize, mark: u8, byte: u8) -> usize
-    requires { ⌜ (mark ≡ 5 → k < length (now out)) ⌝ }
+    requires { ⌜ k < 65536 ⌝ }
     ensures { λ r. ⌜ (r ≡ nextPlace k mark) × (now (out .exit) ≡ putByte (now (out .entry)) k mark byte) ⌝ }
 {
     if mark == 5 {
-        out[k] = byte;
+        put1(out, k, byte);
         return k + 1;
     }
     k

@@ -30,17 +30,15 @@ resultsOf f = results (shapeOf f) (fresh f) (scheduleOf f)
 abbrev pub endOf : List ℕ → State
 endOf f = ends (shapeOf f) (fresh f) (scheduleOf f)
 
--- A lawful file, its schedule's place and length, and buffers of these lengths that are long enough.
-pub record Ready (f : List ℕ) (at n marks out : ℕ) : Type 0 where
+-- A lawful file, and its schedule's place and length.
+pub record Ready (f : List ℕ) (at n : ℕ) : Type 0 where
   pub lawful : Lawful f
   pub at-is : at ≡ scheduleAt f
   pub n-is : n ≡ length (scheduleOf f)
-  pub marks-fit : n ≤ marks
-  pub out-fits : total (popSizes f) ≤ out
 
--- The buffers hold the marks and the bytes of the computed run, and the numbers are its numbers.
+-- The buffers, where they are long enough, hold the marks and the bytes of the computed run; the numbers are its numbers, whatever was lent.
 pub record Finished (f : List ℕ) (n : ℕ) (marks out : List ℕ) (r : Ran) (marks′ out′ : List ℕ) : Type 0 where
-  pub marks-are : marks′ ≡ marksOf (resultsOf f) ++ drop n marks
-  pub out-is : out′ ≡ endOf f .queue .out ++ drop (length (endOf f .queue .out)) out
+  pub marks-are : n ≤ length marks → marks′ ≡ marksOf (resultsOf f) ++ drop n marks
+  pub out-is : total (popSizes f) ≤ length out → out′ ≡ endOf f .queue .out ++ drop (length (endOf f .queue .out)) out
   pub numbers-are : toldOf r n ≡ numbersOf f (resultsOf f) (endOf f)
   pub countable : Countable r n
