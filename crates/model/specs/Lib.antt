@@ -8,5 +8,6 @@ pub mod Plan
 pub mod Run
 pub mod Report
 pub mod Outcome
+pub mod RaceAnswer
 pub mod Worked
 pub mod computed

@@ -9,6 +9,7 @@ pub mod Loads
 pub mod Loop
 pub mod Parts
 pub mod Played
+pub mod Raced
 pub mod Rep
 pub mod ReportLaws
 pub mod Step

@@ -1,10 +1,11 @@
-// The library that a C host calls: one entry, which plays a whole run file. All else is private to this crate.
+// The library that a C host calls: one entry plays a whole run file, another only tells whether it races. All else is private to this crate.
 //
 // state: the machine's state. stores: the list of an index's stores. moves: what each action does to the state. refusal: why an entry is
-// refused. reads: what the machine reads of the run file. run: the run over all entries. report: the twelve numbers.
+// refused. reads: what the machine reads of the run file. run: the run over all entries. report: the twelve numbers. race: only, does it race?
 //
 // Below it, in crates of their own: the room rule, the run file's parts and codes, numbers as bytes.
 mod moves;
+pub mod race;
 mod reads;
 mod refusal;
 mod report;
@@ -13,6 +14,7 @@ mod state;
 mod stores;
 
 ghost use Rattle.model.specs.Outcome.{Outcome};
+ghost use Rattle.model.specs.RaceAnswer.{RaceOutcome};
 
 // Plays a run file. The answer is its code; for code 0 the marks, the bytes read and the report stand in the three lent buffers, and for any
 // other code nothing was written.
@@ -35,4 +37,13 @@ pub extern "C" fn ferrulique_run(
     let numbers = crate::report::numbers(ran, n as u32);
     crate::report::put_report(report, numbers);
     0
+}
+
+// Whether and where a run file races, with no buffer lent: the code in the lowest 8 bits, the racing entry in the 24 above, its partner in the 24
+// above those.
+#[no_mangle]
+pub extern "C" fn ferrulique_race(file: &[u8]) -> u64
+    ensures { λ answer. ⌜ RaceOutcome (now (file .entry)) answer ⌝ }
+{
+    crate::race::packed(crate::race::race(file))
 }

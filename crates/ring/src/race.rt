@@ -1,0 +1,39 @@
+// Only: does it race? The same run with no buffer lent, and two of its numbers.
+use crate::run::run;
+use file::code::file_code;
+use file::parts::schedule_at;
+ghost use mathlib.Core.Path.{_≡_};
+ghost use Rattle.model.specs.RaceAnswer.{RaceAnswer};
+ghost use Rattle.ring.specs.Raced.{codeIn, entryIn, partnerIn, packedOf};
+
+// A file was refused, with its code; or it was run, and this entry raced with this partner, both 0 where none did.
+pub enum Raced {
+    Refused(u32),
+    Ran(u16, u16),
+}
+
+// Whether and where a run file races.
+pub fn race(file: &[u8]) -> Raced
+    ensures { λ r. ⌜ RaceAnswer (now (file .entry)) (codeIn r) (entryIn r) (partnerIn r) ⌝ }
+{
+    let code = file_code(file);
+    if code != 0 {
+        return Raced::Refused(code);
+    }
+    let at = schedule_at(file);
+    let mut marks = [0u8; 0];
+    let mut out = [0u8; 0];
+    let ran = run(file, at, (file.len() - at) / 2, &mut marks, &mut out);
+    let ring = ran.ring;
+    Raced::Ran(ring.race, ring.partner)
+}
+
+// The answer as one number.
+pub(crate) fn packed(answer: Raced) -> u64
+    ensures { λ r. ⌜ r ≡ packedOf answer ⌝ }
+{
+    match answer {
+        Raced::Refused(code) => code as u64,
+        Raced::Ran(entry, partner) => 256 * (entry as u64 + 16777216 * partner as u64),
+    }
+}
