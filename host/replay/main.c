@@ -43,9 +43,8 @@ static int ask_for(const char *name, const uint8_t *bytes, size_t n) {
   return REFUSED;
 }
 
-/* Plays one file and shows it. */
-static int play(const struct command *command, const char *name) {
-  static int shown;
+/* Plays one file and shows it; `shown` counts the files shown. */
+static int play(const struct command *command, const char *name, int *shown) {
   const uint8_t *bytes;
   size_t n;
   struct parts parts;
@@ -54,13 +53,13 @@ static int play(const struct command *command, const char *name) {
   if (answer.code != FERRULIQUE_RAN) return tell_refusal(name, answer.code, bytes, n);
   if (command->mode == RAW) return FINE;
   parts_of(bytes, n, &parts);
-  if (shown++ > 0) putchar('\n');
+  if ((*shown)++ > 0) putchar('\n');
   return show(stdout, name, &parts, &answer, command->rows);
 }
 
 static int play_all(const struct command *command) {
-  int status = FINE;
-  for (int i = 0; i < command->count; i++) status |= play(command, command->names[i]);
+  int status = FINE, shown = 0;
+  for (int i = 0; i < command->count; i++) status |= play(command, command->names[i], &shown);
   return status;
 }
 
