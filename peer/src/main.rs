@@ -39,7 +39,7 @@ use std::process::ExitCode;
 
 const USAGE: &str = "usage: peer run <FILE
        peer make --seed S --number K >FILE
-       peer compare --seed S --count N [--jobs J] [--progress] [--save FOLDER] --program CMD...
+       peer compare --seed S --count N [--jobs J] [--lot L] [--progress] [--save FOLDER] --program CMD...
 built with the library:
        peer drive --seed S --count N [--jobs J] [--floors] [--progress] [--save FOLDER]
        peer explore [--more] [--jobs J] [--progress] [--save FOLDER]";
@@ -119,6 +119,7 @@ fn compare(words: &[String]) -> Option<std::io::Result<ExitCode>> {
         jobs: jobs(words),
         progress: progress(words),
         save: save(words),
+        lot: number(words, "--lot").map(|lot| lot.max(1)),
         program,
     };
     Some(Ok(verdict(compare.all())))

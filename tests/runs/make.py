@@ -189,5 +189,7 @@ lawful("coherence_256", "256 stores, back relaxed: once age 100 was read, ages 1
        [518, 3, 0, 0, 0, 0, 0, 4, 0, 0], [1, 6] * 255 + [1, 3, 1, 134, 134, 3, 1, 3, 1, 134, 3], [], short=(0, 1))
 
 with open(os.path.join(HERE, "README.md"), "w") as f:
-    f.write("# Stored runs\n\nEach is a run file, `NAME.run`, and what `runlist` must print for it, `NAME.out`; `make.py` has every expected line, worked by hand.\n\n| run | what it shows |\n|---|---|\n")
+    f.write("# Stored runs\n\nEach is a run file, `NAME.run`, and what `runlist` must print for it, `NAME.out`; `make.py` has every expected line, worked by hand. "
+            "`compare FOLDER COMMAND...` holds a program against the runs of a folder: runs of another kind have a folder of their own, and a line in the gate."
+            "\n\n| run | what it shows |\n|---|---|\n")
     f.write("\n".join(LINES) + "\n")
