@@ -10,6 +10,7 @@ pub mod Refused
 pub mod Halted
 pub mod Slots
 pub mod Loads
+pub mod RaceAnswer
 pub mod Reach
 pub mod Memory
 pub mod Report
