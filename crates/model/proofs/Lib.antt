@@ -1,8 +1,12 @@
 -- The crate's laws and proofs, file by file.
+pub mod Table
 pub mod Codes
 pub mod Total
+pub mod Ranges
 pub mod Laid
 pub mod Plan
+pub mod Rings
+pub mod OneRing
 pub mod Formed
 pub mod Some
 pub mod One
@@ -15,6 +19,9 @@ pub mod Reach
 pub mod Memory
 pub mod Report
 pub mod Shortfall
+pub mod PairRanges
+pub mod PairLaid
+pub mod PairOutcome
 pub mod Worked
 pub mod Inverse
 pub mod Sides

@@ -12,12 +12,14 @@ use lib.ListN.{length, length-append}
 use Rattle.order.specs.Trace.{Core, core0, core1, sameCore, Ring, Trace, who}
 use Rattle.order.specs.Order.{Orders}
 use Rattle.order.proofs.Trace.{and-false, and-with, same-self, same-true}
-use Rattle.model.specs.File.{Entry, total, pushSizes, popSizes}
+use Rattle.model.specs.File.{Entry, total, pushSizes, popSizes, Part, partOf}
 use Rattle.model.specs.Marks.{batchFailed, dataLoaded, indexStored, noSuchCore, isHalted}
-use Rattle.model.specs.Queue.{Shape, Phase, start, reload, moving, Side, Queue, withSide, isShort}
+use Rattle.model.specs.Queue.{Named, Shape, Phase, start, reload, moving, Side, Queue, withSide, pushes, isShort}
 use Rattle.model.specs.Plan.{Plan}
-use Rattle.model.specs.Run.{Result, Does, State, coreOf, theRing, Entered, Runs, stop, move, shapeOf, fresh}
-use Rattle.model.specs.Report.{one, count, marked, entryPerformed, entryRefused, markedOf, completedOf}
+use Rattle.model.specs.Run.{Result, Does, State, firstRing, namesOne, Runs, machineOf, freshOf, shapeOf, fresh}
+use Rattle.model.specs.Report.{one, count, marked, entryPerformed, entryRefused, markedOf, completedOf, ofRing}
+use Rattle.model.proofs.Rings.{Turn, stranger, halted, does, Turns, none-left, turn, run-turns}
+use Rattle.model.proofs.OneRing.{of-one-ring}
 use Rattle.model.proofs.Plan.{Planned, no-batch, no-age, past, owning, failing, keeping, storing, loading, completing, planned}
 
 -- PERFORMED AND REFUSED are together every entry.
@@ -36,7 +38,7 @@ grows : (q : Queue) (x : Result) (n : ℕ) → x .mark ≡ n → eqb n dataLoade
 grows q x n e k h = rw (e, k, h) (omega arith)
 
 does-grows : (o : Orders) {g : Shape} {r : Ring} {c : Core} {q : Queue} {t : Trace} {age : ℕ} {p : Plan} → Planned g r c q t age p → (x : Result)
-    → Does o c q t p x → length (x .queue .out) ≡ length (q .out) + one (marked dataLoaded x)
+    → Does o r c q t p x → length (x .queue .out) ≡ length (q .out) + one (marked dataLoaded x)
 does-grows o {q = q} (no-batch e) x d = grows q x _ (ap (λ (y : Result). y .mark) d) refl (rw d)
 does-grows o {q = q} no-age x d = grows q x _ (ap (λ (y : Result). y .mark) d) refl (rw d)
 does-grows o {q = q} past x d = grows q x _ (ap (λ (y : Result). y .mark) d) refl (rw d)
@@ -51,19 +53,15 @@ does-grows o {q = q} (loading n rest i eb ep l k) x (inl d) = grows q x _ (ap (�
 does-grows o {q = q} (loading n rest i eb ep l k) x (inr d) = rw (d .1) (length-append (q .out) _)
 does-grows o {q = q} (completing n rest i eb ep l) x d = grows q x _ (ap (λ (y : Result). y .mark) d) refl (rw d)
 
-entered-grows : (g : Shape) (s : State) (age : ℕ) (c : Option Core) (h : Bool) (x : Result) → Entered g s age c h x
-    → length (x .queue .out) ≡ length (s .queue .out) + one (marked dataLoaded x)
-entered-grows g s age none h x d = grows (s .queue) x noSuchCore (ap (λ (y : Result). y .mark) d) refl (rw d)
-entered-grows g s age (some c) true x d = grows (s .queue) x isHalted (ap (λ (y : Result). y .mark) d) refl (rw d)
-entered-grows g s age (some c) false x d = does-grows (g .orders) (planned g theRing c (s .queue) (s .trace) age) x d
+turn-grows : {g : Shape} {r : Ring} {q : Queue} {x : Result} → Turn g r q x → length (x .queue .out) ≡ length (q .out) + one (marked dataLoaded x)
+turn-grows {q = q} {x = x} (stranger d) = grows q x noSuchCore (ap (λ (y : Result). y .mark) d) refl (rw d)
+turn-grows {q = q} {x = x} (halted d) = grows q x isHalted (ap (λ (y : Result). y .mark) d) refl (rw d)
+turn-grows {g} {x = x} (does c t age p w d) = does-grows (g .orders) w x d
 
-pub loads-are-bytes : {g : Shape} {s z : State} {es : List Entry} {xs : List Result} → Runs g s es xs z
-    → length (z .queue .out) ≡ length (s .queue .out) + count (marked dataLoaded) xs
-loads-are-bytes {s = s} stop = omega arith
-loads-are-bytes {g} (move {s = s} {e = e} {x = x} {xs = xs} a p) =
-    let ih = loads-are-bytes p in
-    let k = entered-grows g s (e .age) (coreOf (e .core)) (s .halted) x a in
-    omega arith
+pub loads-are-bytes : {g : Shape} {r : Ring} {q z : Queue} {xs : List Result} → Turns g r q xs z
+    → length (z .out) ≡ length (q .out) + count (marked dataLoaded) xs
+loads-are-bytes none-left = omega arith
+loads-are-bytes (turn a p) = omega (arith, loads-are-bytes p, turn-grows a)
 
 -- COMPLETED BATCHES: their sizes add up to their bytes.
 
@@ -103,7 +101,7 @@ stayed : (q : Queue) (d : Core) (x : Result) (n : ℕ) → x .mark ≡ n → eqb
 stayed q d x n e h k z = nothing z (rw e h) (rw e k)
 
 does-changed : (o : Orders) {g : Shape} {r : Ring} {c : Core} {q : Queue} {t : Trace} {age : ℕ} {p : Plan} → Planned g r c q t age p → (x : Result)
-    → Does o c q t p x → Changed q c x
+    → Does o r c q t p x → Changed q c x
 does-changed o {c = c} {q = q} (no-batch e) x d = stayed q c x _ (ap (λ (y : Result). y .mark) d) refl refl (rw d)
 does-changed o {c = c} {q = q} no-age x d = stayed q c x _ (ap (λ (y : Result). y .mark) d) refl refl (rw d)
 does-changed o {c = c} {q = q} past x d = stayed q c x _ (ap (λ (y : Result). y .mark) d) refl refl (rw d)
@@ -125,13 +123,13 @@ does-changed o {c = c} {q = q} (completing n rest i eb ep l) x d =
 
 -- Results that end no batch of core c, and those that do.
 
-none-left : {A : Type 0} (c : Core) (xs : List Result) → completedOf {A = A} c xs [] ≡ []
-none-left c [] = refl
-none-left c (x ∷ xs) = refl
+nothing-left : {A : Type 0} (c : Core) (xs : List Result) → completedOf {A = A} c xs [] ≡ []
+nothing-left c [] = refl
+nothing-left c (x ∷ xs) = refl
 
 pub passes : {A : Type 0} (c : Core) (x : Result) (xs : List Result) (bs : List A) → markedOf c batchFailed x ≡ false → markedOf c indexStored x ≡ false
     → completedOf c (x ∷ xs) bs ≡ completedOf c xs bs
-passes c x xs [] e k = sym (none-left c xs)
+passes c x xs [] e k = sym (nothing-left c xs)
 passes c x xs (b ∷ bs) e k = rw (e, k)
 
 -- What core c has completed, and what the results to come complete of the batches that it has left.
@@ -182,25 +180,31 @@ changed-owed c d q x s (side me z w m) = go (sameCore d c) refl
         let apart = flip c d e in
         (rw at s, λ xs. rw at (same-owed c (q .side c) (q .side c) x xs (marked-other c d x batchFailed w apart) (marked-other c d x indexStored w apart) refl refl))
 
-entered-changed : (g : Shape) (s : State) (age : ℕ) (c : Option Core) (h : Bool) (x : Result) → Entered g s age c h x → (d : Core) × Changed (s .queue) d x
-entered-changed g s age none h x d = (core0, stayed (s .queue) core0 x noSuchCore (ap (λ (y : Result). y .mark) d) refl refl (rw d))
-entered-changed g s age (some c) true x d = (c, stayed (s .queue) c x isHalted (ap (λ (y : Result). y .mark) d) refl refl (rw d))
-entered-changed g s age (some c) false x d = (c, does-changed (g .orders) (planned g theRing c (s .queue) (s .trace) age) x d)
+turn-changed : {g : Shape} {r : Ring} {q : Queue} {x : Result} → Turn g r q x → (d : Core) × Changed q d x
+turn-changed {q = q} {x = x} (stranger d) = (core0, stayed q core0 x noSuchCore (ap (λ (y : Result). y .mark) d) refl refl (rw d))
+turn-changed {q = q} {x = x} (halted d) = (core0, stayed q core0 x isHalted (ap (λ (y : Result). y .mark) d) refl refl (rw d))
+turn-changed {g} {x = x} (does c t age p w d) = (c, does-changed (g .orders) w x d)
 
-run-owed : {g : Shape} {s z : State} {es : List Entry} {xs : List Result} → (c : Core) → Sound (s .queue .side c) → Runs g s es xs z
-    → length (z .queue .side c .completed) ≡ Owed c (s .queue .side c) xs
+turns-owed : {g : Shape} {r : Ring} {q z : Queue} {xs : List Result} → (c : Core) → Sound (q .side c) → Turns g r q xs z
+    → length (z .side c .completed) ≡ Owed c (q .side c) xs
 unfolding total
-run-owed {s = s} c h stop = omega arith
-run-owed {g} c h (move {s = s} {e = e} {x = x} {xs = xs} a p) =
-    let k = entered-changed g s (e .age) (coreOf (e .core)) (s .halted) x a in
-    let z = changed-owed c (k .0) (s .queue) x h (k .1) in
-    run-owed c (z .0) p ∙ z .1 xs
+turns-owed c h none-left = omega arith
+turns-owed c h (turn {q = q} {x = x} {xs = xs} a p) =
+    let k = turn-changed a in
+    let z = changed-owed c (k .0) q x h (k .1) in
+    turns-owed c (z .0) p ∙ z .1 xs
 
--- The bytes of a run's completed pushes, and of its completed pops, are as many as the sizes of the completed batches add up to.
+-- THE BYTES OF A CORE'S COMPLETED BATCHES at ring r are as many as the sizes of the completed batches add up to.
+pub completed-bytes : (p : Ring → Part) (names : ℕ → Named) (r : Ring) (c : Core) {z : State} {es : List Entry} {xs : List Result}
+    → Runs (machineOf p names) (freshOf p) es xs z
+    → length (z .queue r .side c .completed) ≡ total (completedOf c (ofRing r xs) (cond (pushes r c) (p r .pushSizes) (p r .popSizes)))
+completed-bytes p names r c run = turns-owed c refl (run-turns r run) ∙ omega arith
+
+-- .. and with one ring: of a run's completed pushes, and of its completed pops.
 pub pushed-bytes : (f : List ℕ) {z : State} {es : List Entry} {xs : List Result} → Runs (shapeOf f) (fresh f) es xs z
-    → length (z .queue .side core0 .completed) ≡ total (completedOf core0 xs (pushSizes f))
-pushed-bytes f p = run-owed core0 refl p ∙ omega arith
+    → length (z .queue firstRing .side core0 .completed) ≡ total (completedOf core0 xs (pushSizes f))
+pushed-bytes f p = rw (of-one-ring f p) at (completed-bytes (λ r. partOf f) namesOne firstRing core0 p)
 
 pub popped-bytes : (f : List ℕ) {z : State} {es : List Entry} {xs : List Result} → Runs (shapeOf f) (fresh f) es xs z
-    → length (z .queue .side core1 .completed) ≡ total (completedOf core1 xs (popSizes f))
-popped-bytes f p = run-owed core1 refl p ∙ omega arith
+    → length (z .queue firstRing .side core1 .completed) ≡ total (completedOf core1 xs (popSizes f))
+popped-bytes f p = rw (of-one-ring f p) at (completed-bytes (λ r. partOf f) namesOne firstRing core1 p)

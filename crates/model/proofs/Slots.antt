@@ -14,11 +14,12 @@ use borrow.Author.Tests.{eq-eqb, eqb-true, eqb-false}
 use Rattle.order.specs.Trace.{Core, Ring, Place, slot, samePlace, Act, store, Trace, storesTo, latest, stored, valueOf}
 use Rattle.order.specs.Order.{Orders}
 use Rattle.order.proofs.Trace.{clash, or-none, act-next, act-old, StoreOf, store-in, latest-is}
-use Rattle.model.specs.File.{Entry, ringSize}
+use Rattle.model.specs.File.{Entry, Part}
 use Rattle.model.specs.Marks.{raceFound}
-use Rattle.model.specs.Queue.{Shape, Queue}
+use Rattle.model.specs.Queue.{Named, nobody, named, Shape, Queue}
 use Rattle.model.specs.Plan.{Plan, slotOf}
-use Rattle.model.specs.Run.{Result, Does, State, after, coreOf, theRing, Entered, Step, Runs, stop, move, shapeOf, fresh}
+use Rattle.model.specs.Run.{Result, Does, State, after, firstRing, Entered, Step, Runs, stop, move, machineOf, freshOf}
+use Rattle.model.proofs.Rings.{with-either, ActIn, ringOf, step-at, stores-not}
 use Rattle.model.proofs.Plan.{Planned, no-batch, no-age, past, owning, failing, keeping, storing, loading, completing, planned}
 
 -- The value that a place's latest store gave it.
@@ -40,7 +41,7 @@ held-new a t x e = rw e (ap stored (act-next a t))
 
 -- Slots and trace agree.
 abbrev Agree : Shape → Ring → List ℕ → Trace → Type 0
-Agree g r slots t = (y : ℕ) → y < g .size → getD slots y 0 ≡ held t (slot r y)
+Agree g r slots t = (y : ℕ) → y < g .size r → getD slots y 0 ≡ held t (slot r y)
 
 -- What an entry does to that: the slots stay as many, and unless it races they still agree.
 abbrev Keeps : Shape → Ring → Queue → Trace → Result → Type 0
@@ -52,8 +53,8 @@ quiet : (g : Shape) (r : Ring) (q : Queue) (t : Trace) (x : Result) → x .queue
     → Keeps g r q t x
 quiet g r q t x e n = (ap length e, λ m h y l. rw e (h y l ∙ sym (held-kept (x .did) t (slot r y) (n y))))
 
-module _ (g : Shape) (r : Ring) (c : Core) (q : Queue) (t : Trace) (pos : 0 < g .size) (len : length (q .slots) ≡ g .size) where
-  storing-keeps : (y v : ℕ) → y < g .size → Agree g r (q .slots) t → Agree g r (set (q .slots) y v) (store c (slot r y) v ∷ t)
+module _ (g : Shape) (r : Ring) (c : Core) (q : Queue) (t : Trace) (pos : 0 < g .size r) (len : length (q .slots) ≡ g .size r) where
+  storing-keeps : (y v : ℕ) → y < g .size r → Agree g r (q .slots) t → Agree g r (set (q .slots) y v) (store c (slot r y) v ∷ t)
   storing-keeps y v l h z m = go (samePlace (slot r z) (slot r y)) refl
     where
       go : (b : Bool) → samePlace (slot r z) (slot r y) ≡ b → getD (set (q .slots) y v) z 0 ≡ held (store c (slot r y) v ∷ t) (slot r z)
@@ -68,7 +69,7 @@ module _ (g : Shape) (r : Ring) (c : Core) (q : Queue) (t : Trace) (pos : 0 < g 
   raced-keeps : (x : Result) → x .mark ≡ raceFound → x .queue .slots ≡ q .slots → Keeps g r q t x
   raced-keeps x e k = (ap length k, λ m h. clash (cc (eq-eqb (x .mark) raceFound e)))
 
-  does-keeps : (o : Orders) {age : ℕ} {p : Plan} → Planned g r c q t age p → (x : Result) → Does o c q t p x → Keeps g r q t x
+  does-keeps : (o : Orders) {age : ℕ} {p : Plan} → Planned g r c q t age p → (x : Result) → Does o r c q t p x → Keeps g r q t x
   does-keeps o (no-batch e) x d = quiet g r q t x (rw d) (λ y. rw d)
   does-keeps o no-age x d = quiet g r q t x (rw d) (λ y. rw d)
   does-keeps o past x d = quiet g r q t x (rw d) (λ y. rw d)
@@ -79,34 +80,49 @@ module _ (g : Shape) (r : Ring) (c : Core) (q : Queue) (t : Trace) (pos : 0 < g 
   does-keeps o (keeping n rest s eb ep e h) x (inr d) = quiet g r q t x (rw (d .1)) (λ y. rw (d .1))
   does-keeps o (storing n rest i eb ep l k) x (inl d) = raced-keeps x (rw (d .2)) (rw (d .2))
   does-keeps o (storing n rest i eb ep l k) x (inr d) =
-      let y = slotOf g (q .side c .own) i in
+      let y = slotOf g r (q .side c .own) i in
       let v = getD (q .feed) 0 0 in
       rw (d .1) (length-set (q .slots) y v, λ m h. storing-keeps y v (mod-lt (q .side c .own + i) pos) h)
   does-keeps o (loading n rest i eb ep l k) x (inl d) = raced-keeps x (rw (d .2)) (rw (d .2))
   does-keeps o (loading n rest i eb ep l k) x (inr d) = quiet g r q t x (rw (d .1)) (λ y. rw (d .1))
   does-keeps o (completing n rest i eb ep l) x d = quiet g r q t x (rw d) (λ y. rw d)
 
-entered-keeps : (g : Shape) (s : State) (age : ℕ) (c : Option Core) (h : Bool) (x : Result) → 0 < g .size → length (s .queue .slots) ≡ g .size
-    → Entered g s age c h x → Keeps g theRing (s .queue) (s .trace) x
-entered-keeps g s age none h x pos len d = quiet g theRing (s .queue) (s .trace) x (rw d) (λ y. rw d)
-entered-keeps g s age (some c) true x pos len d = quiet g theRing (s .queue) (s .trace) x (rw d) (λ y. rw d)
-entered-keeps g s age (some c) false x pos len d =
-    does-keeps g theRing c (s .queue) (s .trace) pos len (g .orders) (planned g theRing c (s .queue) (s .trace) age) x d
+entered-keeps : (g : Shape) (s : State) (age : ℕ) (c : Named) (h : Bool) (x : Result)
+    → 0 < g .size (ringOf c) → length (s .queue (ringOf c) .slots) ≡ g .size (ringOf c)
+    → Entered g s age c h x → Keeps g (ringOf c) (s .queue (ringOf c)) (s .trace) x
+entered-keeps g s age nobody h x pos len d = quiet g firstRing (s .queue firstRing) (s .trace) x (rw d) (λ y. rw d)
+entered-keeps g s age (named r c) true x pos len d = quiet g r (s .queue r) (s .trace) x (rw d) (λ y. rw d)
+entered-keeps g s age (named r c) false x pos len d =
+    does-keeps g r c (s .queue r) (s .trace) pos len (g .orders) (planned g r c (s .queue r) (s .trace) age) x d
 
--- What a run keeps.
-abbrev Hold : Shape → State → Type 0
-Hold g s = (length (s .queue .slots) ≡ g .size) × (s .halted ≡ false → Agree g theRing (s .queue .slots) (s .trace))
+-- What a run keeps of ring r.
+abbrev Hold : Shape → Ring → State → Type 0
+Hold g r s = (length (s .queue r .slots) ≡ g .size r) × (s .halted ≡ false → Agree g r (s .queue r .slots) (s .trace))
 
-step-hold : (g : Shape) (s : State) (e : Entry) (x : Result) → 0 < g .size → Step g s e x → Hold g s → Hold g (after s x)
-step-hold g s e x pos d h =
-    let k = entered-keeps g s (e .age) (coreOf (e .core)) (s .halted) x pos (h .0) d in
-    (k .0 ∙ h .0, λ m. let z = or-none (s .halted) (eqb (x .mark) raceFound) m in k .1 (z .1) (h .1 (z .0)))
+step-hold : (g : Shape) (r : Ring) (s : State) (e : Entry) (x : Result) → 0 < g .size r → Step g s e x → Hold g r s → Hold g r (after s x)
+step-hold g r s e x pos d h =
+    let k = step-at g s e x d in
+    go (ringOf (g .names (e .core))) (k .0) (k .1) (λ p l. entered-keeps g s (e .age) (g .names (e .core)) (s .halted) x p l d)
+  where
+    go : (p : Ring) → x .ring ≡ p → ActIn p (x .did)
+        → (0 < g .size p → length (s .queue p .slots) ≡ g .size p → Keeps g p (s .queue p) (s .trace) x) → Hold g r (after s x)
+    go p e a k = with-either (λ q. (length (q .slots) ≡ g .size r) × (after s x .halted ≡ false → Agree g r (q .slots) (x .did ∷ s .trace)))
+        (s .queue) (x .ring) (x .queue) r
+        (λ y. let z : Keeps g r (s .queue r) (s .trace) x = rw (sym e ∙ y) at k pos (h .0) in
+        (z .0 ∙ h .0, λ m. let w = or-none (s .halted) (eqb (x .mark) raceFound) m in z .1 (w .1) (h .1 (w .0))))
+        (λ y. (
+          h .0,
+          λ m b l. let w = or-none (s .halted) (eqb (x .mark) raceFound) m in
+              h .1 (w .0) b l ∙ sym (held-kept (x .did) (s .trace) (slot r b) (stores-not p r (slot r b) (x .did) a refl (λ z. y (e ∙ z)))),
+        ))
 
-run-hold : {g : Shape} {s z : State} {es : List Entry} {xs : List Result} → 0 < g .size → Hold g s → Runs g s es xs z → Hold g z
+run-hold : {g : Shape} {r : Ring} {s z : State} {es : List Entry} {xs : List Result} → 0 < g .size r → Hold g r s → Runs g s es xs z → Hold g r z
 run-hold pos h stop = h
-run-hold {g} pos h (move {s = s} {e = e} {x = x} a p) = run-hold pos (step-hold g s e x pos a h) p
+run-hold {g} {r} pos h (move {s = s} {e = e} {x = x} a p) = run-hold {r = r} pos (step-hold g r s e x pos a h) p
 
--- SLOTS HOLD their latest store's byte, after any run that has not halted.
-pub slots-hold : (f : List ℕ) {z : State} {es : List Entry} {xs : List Result} → 0 < ringSize f → Runs (shapeOf f) (fresh f) es xs z
-    → z .halted ≡ false → (y : ℕ) → y < ringSize f → getD (z .queue .slots) y 0 ≡ valueOf (z .trace) (latest (z .trace) (slot theRing y))
-slots-hold f pos p = run-hold {g = shapeOf f} pos (length-replicate (ringSize f) 0, λ m y l. getD-replicate (ringSize f) y 0 0 l) p .1
+-- SLOTS HOLD their latest store's byte, after any run that has not halted, at every ring.
+pub slots-hold : (p : Ring → Part) (names : ℕ → Named) (r : Ring) {z : State} {es : List Entry} {xs : List Result} → 0 < p r .size
+    → Runs (machineOf p names) (freshOf p) es xs z → z .halted ≡ false
+    → (y : ℕ) → y < p r .size → getD (z .queue r .slots) y 0 ≡ valueOf (z .trace) (latest (z .trace) (slot r y))
+slots-hold p names r pos run =
+    run-hold {g = machineOf p names} {r = r} pos (length-replicate (p r .size) 0, λ m y l. getD-replicate (p r .size) y 0 0 l) run .1

@@ -21,9 +21,9 @@ use Rattle.model.specs.Limits.{reportBytes}
 use Rattle.model.specs.File.{Entry, scheduleOf}
 use Rattle.model.specs.Codes.{codeOf}
 use Rattle.model.specs.Marks.{storeHidden}
-use Rattle.model.specs.Queue.{Shape, Queue}
+use Rattle.model.specs.Queue.{Named, nobody, named, Shape, Queue}
 use Rattle.model.specs.Plan.{Plan, refuse, perform, unless-hidden, unless-race, plan}
-use Rattle.model.specs.Run.{refused, performed, raced, Does, State, after, coreOf, theRing, Entered, Step, Runs, stop, move, shapeOf, fresh}
+use Rattle.model.specs.Run.{refused, performed, raced, Does, State, after, firstRing, Entered, Step, Runs, stop, move, shapeOf, fresh}
 use Rattle.model.specs.Report.{numbersOf, bytesOf}
 use Rattle.model.specs.Outcome.{marksOf, Outcome}
 use Rattle.model.specs.computed.Machine.{decided, entered, step, results, ends}
@@ -31,18 +31,18 @@ use Rattle.model.proofs.Formed.{PlanFits, plan-fits, step-fits}
 
 module _ (o : Orders) (r : Ring) (c : Core) (q : Queue) (t : Trace) (f : Formed t) where
   of-load : (s n : ℕ) (z : Queue) → StoreOf t (index r (other c)) s
-      → Does o c q t (unless-hidden (index r (other c)) s n z) (decided o c q t (unless-hidden (index r (other c)) s n z))
+      → Does o r c q t (unless-hidden (index r (other c)) s n z) (decided o r c q t (unless-hidden (index r (other c)) s n z))
   of-load s n z st =
-      cond-elim (Does o c q t (unless-hidden (index r (other c)) s n z)) (outOfReach o t c (index r (other c)) s)
-      (refused q storeHidden) (performed n (load c (index r (other c)) s) z)
+      cond-elim (Does o r c q t (unless-hidden (index r (other c)) s n z)) (outOfReach o t c (index r (other c)) s)
+      (refused r q storeHidden) (performed r n (load c (index r (other c)) s) z)
       (λ e. inl (reach-decided o t f c r s st .0 e, refl))
       (λ e. inr ((λ h. let k = reach-decided o t f c r s st .1 h in clash (cc)), refl))
 
   of-race : (y : ℕ) (a : Act) (n : ℕ) (z : Queue) → AccessOf a c r y → Fits t a
-      → Does o c q t (unless-race (slot r y) a n z) (decided o c q t (unless-race (slot r y) a n z))
+      → Does o r c q t (unless-race (slot r y) a n z) (decided o r c q t (unless-race (slot r y) a n z))
   of-race y a n z m g =
-      cond-elim (Does o c q t (unless-race (slot r y) a n z)) (ltb (know o t c) (rival t c (slot r y) (isStore a)))
-      (raced a q (rival t c (slot r y) (isStore a))) (performed n a z)
+      cond-elim (Does o r c q t (unless-race (slot r y) a n z)) (ltb (know o t c) (rival t c (slot r y) (isStore a)))
+      (raced r a q (rival t c (slot r y) (isStore a))) (performed r n a z)
       (λ e. inl (
         rival t c (slot r y) (isStore a),
         race-decided o t c r y a (g, f) m (ltb-true (know o t c) (rival t c (slot r y) (isStore a)) e),
@@ -50,7 +50,7 @@ module _ (o : Orders) (r : Ring) (c : Core) (q : Queue) (t : Trace) (f : Formed 
       ))
       (λ e. inr (calm-decided o t c r y a (g, f) m (ltb-false (know o t c) (rival t c (slot r y) (isStore a)) e), refl))
 
-  does-decided : (p : Plan) → PlanFits t c r p → Does o c q t p (decided o c q t p)
+  does-decided : (p : Plan) → PlanFits t c r p → Does o r c q t p (decided o r c q t p)
   does-decided (refuse n) h = refl
   does-decided (perform n a z) h = refl
   does-decided (unless-hidden x s n z) h =
@@ -58,15 +58,15 @@ module _ (o : Orders) (r : Ring) (c : Core) (q : Queue) (t : Trace) (f : Formed 
       rw (h .0) (of-load s n z st)
   does-decided (unless-race x a n z) h = rw (h .1) (of-race (h .0) a n z (h .2) (h .3))
 
-entered-allowed : (g : Shape) (s : State) (age : ℕ) (c : Option Core) (h : Bool) → Formed (s .trace) → Entered g s age c h (entered g s age c h)
-entered-allowed g s age none h f = refl
-entered-allowed g s age (some c) true f = refl
-entered-allowed g s age (some c) false f =
-    does-decided (g .orders) theRing c (s .queue) (s .trace) f (plan g theRing c (s .queue) (s .trace) age)
-    (plan-fits g theRing c (s .queue) (s .trace) age)
+entered-allowed : (g : Shape) (s : State) (age : ℕ) (c : Named) (h : Bool) → Formed (s .trace) → Entered g s age c h (entered g s age c h)
+entered-allowed g s age nobody h f = refl
+entered-allowed g s age (named r c) true f = refl
+entered-allowed g s age (named r c) false f =
+    does-decided (g .orders) r c (s .queue r) (s .trace) f (plan g r c (s .queue r) (s .trace) age)
+    (plan-fits g r c (s .queue r) (s .trace) age)
 
 pub step-allowed : (g : Shape) (s : State) (e : Entry) → Formed (s .trace) → Step g s e (step g s e)
-step-allowed g s e f = entered-allowed g s (e .age) (coreOf (e .core)) (s .halted) f
+step-allowed g s e f = entered-allowed g s (e .age) (g .names (e .core)) (s .halted) f
 
 -- The computed run is one that the definition allows.
 pub some-run : (g : Shape) (s : State) (es : List Entry) → Formed (s .trace) → Runs g s es (results g s es) (ends g s es)
@@ -85,7 +85,7 @@ some-result f marks out report =
       | yes h ↦ (
         code,
         marksOf xs ++ drop (length xs) marks,
-        z .queue .out ++ drop (length (z .queue .out)) out,
+        z .queue firstRing .out ++ drop (length (z .queue firstRing .out)) out,
         bytesOf (numbersOf f xs z) ++ drop reportBytes report,
         record {
           code-is = refl;

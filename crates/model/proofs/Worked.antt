@@ -13,8 +13,8 @@ use Rattle.model.specs.Limits.{reportNumbers, reportBytes}
 use Rattle.model.specs.File.{number4, total, pushSizes, popSizes, pushBytes, scheduleAt, scheduleOf, Entry}
 use Rattle.model.specs.Codes.{fileTable, firstOf, Lawful}
 use Rattle.model.specs.Queue.{Shape}
-use Rattle.model.specs.Run.{Result, State, Runs, stop, move, shapeOf, fresh}
-use Rattle.model.specs.Report.{numbersOf, bytesOf}
+use Rattle.model.specs.Run.{Result, State, firstRing, Runs, stop, move, shapeOf, fresh}
+use Rattle.model.specs.Report.{reportOf, numbersOf, bytesOf}
 use Rattle.model.specs.Outcome.{marksOf}
 use Rattle.model.specs.Worked.{Stated, Worked, worked, Numbers, Bytes, Comes, AllCome}
 use Rattle.model.specs.computed.Machine.{results, ends}
@@ -52,7 +52,7 @@ got w = record {
   code = firstOf (fileTable (w .file));
   marks = marksOf (run w);
   numbers = map (λ (s : Stated). number4 (report w) (4 * s .place)) (w .numbers);
-  bytes = asked (w .bytes) (end w .queue .out);
+  bytes = asked (w .bytes) (end w .queue firstRing .out);
   inside = inReport (w .numbers);
 }
 
@@ -60,7 +60,7 @@ want : Worked → Got
 want w = record { code = 0; marks = w .marks; numbers = map (λ (s : Stated). s .value) (w .numbers); bytes = w .bytes; inside = true }
 
 computed : map got worked ≡ map want worked
-unfolding got want total pushSizes popSizes pushBytes scheduleAt scheduleOf fileTable numbersOf bytesOf
+unfolding got want total pushSizes popSizes pushBytes scheduleAt scheduleOf fileTable reportOf bytesOf
 computed = refl
 
 pub run-length : {g : Shape} {s z : State} {es : List Entry} {xs : List Result} → Runs g s es xs z → length xs ≡ length es
@@ -75,7 +75,7 @@ length-bytesOf [] = refl
 length-bytesOf (n ∷ ns) = let h = length-bytesOf ns in omega arith
 
 pub length-report : (f : List ℕ) (xs : List Result) (z : State) → length (bytesOf (numbersOf f xs z)) ≡ reportBytes
-unfolding numbersOf
+unfolding reportOf
 length-report f xs z = length-bytesOf (numbersOf f xs z)
 
 -- A number of the first part of a list is a number of the list.
@@ -115,7 +115,7 @@ come w e marks out rep r marks′ out′ report′ a b c o =
       code0,
       ran .marks-are ∙ rw (k .0, el, em) refl,
       rw er (numbers-come (w .numbers) (report w) (drop reportBytes rep) (length-report f (run w) (end w)) (ap (λ (g : Got). g .inside) e) (ap (λ (g : Got). g .numbers) e)),
-      bytes-come (w .bytes) (end w .queue .out) out out′ (ap (λ (g : Got). g .bytes) e) (ran .out-is ∙ rw (k .1) refl),
+      bytes-come (w .bytes) (end w .queue firstRing .out) out out′ (ap (λ (g : Got). g .bytes) e) (ran .out-is ∙ rw (k .1) refl),
     )
 
 all-come : (ws : List Worked) → map got ws ≡ map want ws → AllCome ws

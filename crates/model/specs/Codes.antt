@@ -20,18 +20,25 @@ row n b = record { code = n; applies = b }
 abbrev pub divides : ℕ → ℕ → Bool
 divides m M = eqb (M % m) 0
 
+-- The rows about a ring, whose eight bytes are the first of f.
+abbrev pub ringTable : List ℕ → List Row
+ringTable f =
+    row 3 (eqb (ringSize f) 0 || ltb mostSlots (ringSize f))
+    ∷ row 4 (ltb (modulusOf f) leastModulus || ltb mostModulus (modulusOf f))
+    ∷ row 5 (not (divides (ringSize f) (modulusOf f)) || eqb (modulusOf f) (ringSize f))
+    ∷ row 6 (ltb mostOrderBits (orderBits f))
+    ∷ []
+
 -- The rows about the file alone.
 unfoldable pub fileTable : List ℕ → List Row
 fileTable f =
     row 1 (ltb (length f) headerBytes)
     ∷ row 2 (ltb mostFileBytes (length f))
-    ∷ row 3 (eqb (ringSize f) 0 || ltb mostSlots (ringSize f))
-    ∷ row 4 (ltb (modulusOf f) leastModulus || ltb mostModulus (modulusOf f))
-    ∷ row 5 (not (divides (ringSize f) (modulusOf f)) || eqb (modulusOf f) (ringSize f))
-    ∷ row 6 (ltb mostOrderBits (orderBits f))
-    ∷ row 7 (ltb (length f) (sizesEnd f) || ltb (length f) (scheduleAt f))
+    ∷ (ringTable f ++ (
+    row 7 (ltb (length f) (sizesEnd f) || ltb (length f) (scheduleAt f))
     ∷ row 8 (eqb ((length f - scheduleAt f) % 2) 1)
     ∷ []
+    ))
 
 -- The rows about the lengths of the three lent buffers.
 unfoldable pub bufferTable : List ℕ → ℕ → ℕ → ℕ → List Row

@@ -1,12 +1,13 @@
 -- The run file: a list of bytes, and where each of its parts lies.
-use mathlib.Core.Bool.{Bool}
+use mathlib.Core.Bool.{Bool, cond}
 use mathlib.Core.List.{List, [], _∷_}
 use Prim.Native.Nat.{ℕ, _+_, _*_, _/_, _%_, _^_}
 use lib.Dec.{eqb}
 use lib.ListN.{getD, take, drop}
-use Rattle.order.specs.Trace.{core0, core1}
+use Rattle.order.specs.Trace.{Ring}
 use Rattle.order.specs.Order.{Orders}
 use Rattle.model.specs.Limits.{headerBytes}
+use Rattle.model.specs.Queue.{pushes}
 
 abbrev pub byteAt : List ℕ → ℕ → ℕ
 byteAt f i = getD f i 0
@@ -75,10 +76,30 @@ scheduleOf f = pairs (drop (scheduleAt f) f)
 abbrev pub bit : ℕ → ℕ → Bool
 bit n k = eqb (n / 2 ^ k % 2) 1
 
--- Order bits, set for strong. Bit 0: the producer's load of front is acquire; bit 1: its store of back is release; bit 2: the consumer's load of
--- back is acquire; bit 3: its store of front is release.
-abbrev pub ordersOf : ℕ → Orders
-ordersOf n = record {
-  acquire = λ r c. elim c [ core0 ↦ bit n 0 | core1 ↦ bit n 2 ];
-  release = λ r c. elim c [ core0 ↦ bit n 1 | core1 ↦ bit n 3 ];
+-- Each ring's order bits, set for strong. Bit 0: the producer's load of front is acquire; bit 1: its store of back is release; bit 2: the
+-- consumer's load of back is acquire; bit 3: its store of front is release.
+abbrev pub ordersOf : (Ring → ℕ) → Orders
+ordersOf bits = record {
+  acquire = λ r c. cond (pushes r c) (bit (bits r) 0) (bit (bits r) 2);
+  release = λ r c. cond (pushes r c) (bit (bits r) 1) (bit (bits r) 3);
+}
+
+-- What a file says of one ring: m, M, the order bits, the sizes of the push batches and of the pop batches, the bytes to push.
+pub record Part : Type 0 where
+  pub size : ℕ
+  pub modulus : ℕ
+  pub bits : ℕ
+  pub pushSizes : List ℕ
+  pub popSizes : List ℕ
+  pub pushBytes : List ℕ
+
+-- What a run file says of its one ring.
+abbrev pub partOf : List ℕ → Part
+partOf f = record {
+  size = ringSize f;
+  modulus = modulusOf f;
+  bits = orderBits f;
+  pushSizes = pushSizes f;
+  popSizes = popSizes f;
+  pushBytes = pushBytes f;
 }

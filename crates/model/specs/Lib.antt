@@ -9,5 +9,8 @@ pub mod Run
 pub mod Report
 pub mod Outcome
 pub mod RaceAnswer
+pub mod PairFile
+pub mod PairCodes
+pub mod PairOutcome
 pub mod Worked
 pub mod computed

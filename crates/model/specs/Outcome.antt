@@ -6,7 +6,7 @@ use lib.ListN.{length, drop}
 use Rattle.model.specs.Limits.{reportBytes}
 use Rattle.model.specs.File.{scheduleOf}
 use Rattle.model.specs.Codes.{codeOf}
-use Rattle.model.specs.Run.{Result, State, Runs, shapeOf, fresh}
+use Rattle.model.specs.Run.{Result, State, firstRing, Runs, shapeOf, fresh}
 use Rattle.model.specs.Report.{numbersOf, bytesOf}
 
 abbrev pub marksOf : List Result → List ℕ
@@ -18,7 +18,7 @@ pub record Ran (f marks out report marks′ out′ report′ : List ℕ) : Type 
   pub end : State
   pub run : Runs (shapeOf f) (fresh f) (scheduleOf f) results end
   pub marks-are : marks′ ≡ marksOf results ++ drop (length results) marks
-  pub out-is : out′ ≡ end .queue .out ++ drop (length (end .queue .out)) out
+  pub out-is : out′ ≡ end .queue firstRing .out ++ drop (length (end .queue firstRing .out)) out
   pub report-is : report′ ≡ bytesOf (numbersOf f results end) ++ drop reportBytes report
 
 -- The answer is the file's code. For code 0 the file was run; for any other nothing was written.

@@ -1,14 +1,14 @@
--- The report: twelve numbers, each taken from the results of the run, its trace and the file.
+-- The report of a ring: twelve numbers, each taken from the results of the run that count for the ring, the trace and the file.
 use mathlib.Core.Bool.{Bool, true, false, cond, _&&_, not}
 use mathlib.Core.Option.{Option, none, some}
 use mathlib.Core.List.{List, [], _∷_, _++_}
 use Prim.Native.Nat.{ℕ, suc, _+_, _-_, _/_, _%_, max}
 use lib.Dec.{eqb}
-use Rattle.order.specs.Trace.{Core, core0, core1, sameCore, index, Trace, who, latest, valueOf}
-use Rattle.model.specs.File.{total, modulusOf, pushSizes, popSizes}
+use Rattle.order.specs.Trace.{Core, other, sameCore, Ring, index, Trace, who, latest, valueOf}
+use Rattle.model.specs.File.{total, Part, partOf}
 use Rattle.model.specs.Marks.{batchFailed, dataLoaded, indexStored, raceFound, isPerformed}
-use Rattle.model.specs.Queue.{Shape, Side, Queue, shortfall}
-use Rattle.model.specs.Run.{Result, State, theRing, shapeOf, fresh}
+use Rattle.model.specs.Queue.{Shape, Side, Queue, pusher, shortfall}
+use Rattle.model.specs.Run.{Result, State, firstRing, freshQueue, shapeOf}
 
 -- How many results pass a test.
 abbrev pub one : Bool → ℕ
@@ -46,56 +46,77 @@ completedOf c (x ∷ xs) (b ∷ bs) =
     let open-still = completedOf c xs (b ∷ bs) in
     cond (markedOf c batchFailed x) failed (cond (markedOf c indexStored x) completed open-still)
 
--- The racing entry, the entries being counted from n, or 0; and its partner, or 0.
-abbrev pub raceFrom : ℕ → List Result → ℕ
-raceFrom n [] = 0
-raceFrom n (x ∷ xs) = cond (marked raceFound x) n (raceFrom (suc n) xs)
+-- The results of the entries that count for ring r: with one ring, all.
+abbrev pub ofRing : Ring → List Result → List Result
+ofRing r [] = []
+ofRing r (x ∷ xs) = let later = ofRing r xs in cond (eqb (x .ring) r) (x ∷ later) later
 
+-- The number of the first entry whose result passes a test, the entries being counted from n; 0 where none does.
+abbrev pub entryWith : (Result → Bool) → ℕ → List Result → ℕ
+entryWith p n [] = 0
+entryWith p n (x ∷ xs) = cond (p x) n (entryWith p (suc n) xs)
+
+-- Did it race, and counts for ring r?
+abbrev pub racedAt : Ring → Result → Bool
+racedAt r x = eqb (x .ring) r && marked raceFound x
+
+-- The racing entry, where it counts for ring r, or 0. All entries are counted, whichever ring they count for.
+abbrev pub raceOf : Ring → List Result → ℕ
+raceOf r xs = entryWith (racedAt r) 1 xs
+
+-- The partner of the racing entry, or 0.
 abbrev pub partnerOf : List Result → ℕ
 partnerOf [] = 0
 partnerOf (x ∷ xs) = cond (marked raceFound x) (x .partner) (partnerOf xs)
 
--- (newest back - newest front) mod M.
-abbrev pub occupancy : ℕ → Trace → ℕ
-occupancy M t = (valueOf t (latest t (index theRing core0)) + (M - valueOf t (latest t (index theRing core1)))) % M
+-- (newest back - newest front) mod M, at ring r.
+abbrev pub occupancy : Ring → (M : ℕ) → Trace → ℕ
+occupancy r M t = (valueOf t (latest t (index r (pusher r))) + (M - valueOf t (latest t (index r (other (pusher r)))))) % M
 
--- By how much core c's batch failed: the batch is the first of those that the core had, the indexes are those that it holds after the reload.
-abbrev pub missed : Shape → Core → (had : List ℕ) → Side → ℕ
-missed g c [] me = 0
-missed g c (n ∷ rest) me = shortfall g theRing c n (me .own) (me .cached)
+-- By how much core c's batch at ring r failed: the batch is the first of those that the core had, the indexes are those that it holds after the reload.
+abbrev pub missed : Shape → Ring → Core → (had : List ℕ) → Side → ℕ
+missed g r c [] me = 0
+missed g r c (n ∷ rest) me = shortfall g r c n (me .own) (me .cached)
 
--- The shortfalls of core c's failed batches, in order. The queue before the first of these results is q.
-abbrev pub shortfallsOf : Shape → Core → Queue → List Result → List ℕ
-shortfallsOf g c q [] = []
-shortfallsOf g c q (x ∷ xs) =
-    let later = shortfallsOf g c (x .queue) xs in
-    cond (markedOf c batchFailed x) (missed g c (q .side c .batches) (x .queue .side c) ∷ later) later
+-- The shortfalls of core c's failed batches, in order. The results count for ring r, whose queue before the first of them is q.
+abbrev pub shortfallsOf : Shape → Ring → Core → Queue → List Result → List ℕ
+shortfallsOf g r c q [] = []
+shortfallsOf g r c q (x ∷ xs) =
+    let later = shortfallsOf g r c (x .queue) xs in
+    cond (markedOf c batchFailed x) (missed g r c (q .side c .batches) (x .queue .side c) ∷ later) later
 
 -- The largest of some numbers, 0 of none.
 abbrev pub largest : List ℕ → ℕ
 largest [] = 0
 largest (n ∷ ns) = max n (largest ns)
 
--- The largest shortfall of core c's failed batches in a run of file f.
-abbrev pub largestShortfall : List ℕ → Core → List Result → ℕ
-largestShortfall f c xs = largest (shortfallsOf (shapeOf f) c (fresh f .queue) xs)
+-- The largest shortfall of core c's failed batches at ring r, of which the file says p. The results count for the ring.
+abbrev pub largestShortfall : Shape → Ring → Part → Core → List Result → ℕ
+largestShortfall g r p c xs = largest (shortfallsOf g r c (freshQueue r p) xs)
 
--- The twelve numbers of a run of file f, with these results and this end.
-unfoldable pub numbersOf : List ℕ → List Result → State → List ℕ
-numbersOf f xs z =
-    count entryPerformed xs
-    ∷ count entryRefused xs
-    ∷ total (completedOf core0 xs (pushSizes f))
-    ∷ total (completedOf core1 xs (popSizes f))
-    ∷ count (marked dataLoaded) xs
-    ∷ occupancy (modulusOf f) (z .trace)
-    ∷ count (markedOf core0 batchFailed) xs
-    ∷ count (markedOf core1 batchFailed) xs
-    ∷ raceFrom 1 xs
-    ∷ partnerOf xs
-    ∷ largestShortfall f core0 xs
-    ∷ largestShortfall f core1 xs
+-- The twelve numbers of ring r, of which the file says p, after a run with these results and this end.
+unfoldable pub reportOf : Shape → Ring → Part → List Result → State → List ℕ
+reportOf g r p xs z =
+    let mine = ofRing r xs in
+    let producer = pusher r in
+    let consumer = other (pusher r) in
+    count entryPerformed mine
+    ∷ count entryRefused mine
+    ∷ total (completedOf producer mine (p .pushSizes))
+    ∷ total (completedOf consumer mine (p .popSizes))
+    ∷ count (marked dataLoaded) mine
+    ∷ occupancy r (p .modulus) (z .trace)
+    ∷ count (markedOf producer batchFailed) mine
+    ∷ count (markedOf consumer batchFailed) mine
+    ∷ raceOf r xs
+    ∷ partnerOf mine
+    ∷ largestShortfall g r p producer mine
+    ∷ largestShortfall g r p consumer mine
     ∷ []
+
+-- The numbers of a run of file f, which has one ring.
+abbrev pub numbersOf : List ℕ → List Result → State → List ℕ
+numbersOf f xs z = reportOf (shapeOf f) firstRing (partOf f) xs z
 
 -- A number as four bytes, little-endian; and a list of numbers.
 abbrev pub le4 : ℕ → List ℕ

@@ -1,31 +1,43 @@
--- The promise of strong orders as facts about a call.
-use mathlib.Core.Path.{_≡_, refl, sym, ap, _∙_}
-use mathlib.Core.Bool.{cond}
+-- What a report and an out tell of a ring, for any rings and all settings; and the promise of strong orders as facts about a call.
+use mathlib.Core.Path.{_≡_, refl, sym, ap, _∙_, subst}
+use mathlib.Core.Bool.{Bool, true, false, cond, _&&_}
 use mathlib.Core.List.{List, [], _∷_, _++_, append-assoc}
 use Prim.Native.Nat.{ℕ, suc, _+_, _≤_}
 use native.Mathlib.Omega.{arith}
+use lib.Dec.{eqb}
 use lib.ListN.{length, take, drop, length-map}
 use lib.Seq.{take-at}
 use borrow.Author.Tests.{ne-eqb}
-use Rattle.order.specs.Trace.{Core, core0, core1}
-use Rattle.order.proofs.Trace.{cond-elim}
-use Rattle.model.specs.Limits.{reportBytes}
-use Rattle.model.specs.File.{total, modulusOf, pushSizes, scheduleAt, scheduleOf}
+use Rattle.order.specs.Trace.{Core, other, Ring}
+use Rattle.order.proofs.Trace.{cond-elim, same-self}
+use Rattle.model.specs.Limits.{mostFileBytes, reportBytes}
+use Rattle.model.specs.File.{total, pushSizes, scheduleAt, Entry, scheduleOf, Part, partOf}
 use Rattle.model.specs.Marks.{batchFailed, indexStored, raceFound}
-use Rattle.model.specs.Run.{Result, State}
-use Rattle.model.specs.Report.{markedOf, completedOf, raceFrom, partnerOf, occupancy, numbersOf, bytesOf}
+use Rattle.model.specs.Queue.{Named, Shape, pusher}
+use Rattle.model.specs.Run.{Result, State, firstRing, Runs, machineOf, freshOf, namesOne}
+use Rattle.model.specs.Report.{markedOf, completedOf, ofRing, entryWith, racedAt, partnerOf, occupancy, reportOf, numbersOf, bytesOf}
 use Rattle.model.specs.Outcome.{marksOf}
 use Rattle.model.proofs.Inverse.{reads-back}
 use Rattle.model.proofs.Laid.{Ranges, lawful-ranges, code-means}
-use Rattle.model.proofs.Report.{pushed-bytes, popped-bytes}
-use Rattle.promises.specs.Strong.{NeverRaced, pushed, popped, poppedBytes, Kept}
-use Rattle.promises.specs.Call.{bytesPushed, bytesPopped, occupancyTold, raceEntry, racePartner, StrongCallKeeps}
-use Rattle.promises.proofs.Strong.{strong-keeps}
+use Rattle.model.proofs.OneRing.{of-one-ring}
+use Rattle.model.proofs.Report.{completed-bytes}
+use Rattle.promises.specs.Strong.{NeverRaced, pushed, popped, pushedBytes, poppedBytes, Flows}
+use Rattle.promises.specs.Call.{bytesPushed, bytesPopped, occupancyTold, raceEntry, racePartner, Told, NoRaceTold, StrongCallKeeps}
+use Rattle.promises.proofs.Pushed.{not-same}
+use Rattle.promises.proofs.Strong.{Fair, flows, lawful-fair, strong-keeps}
 
 -- Where no entry raced, the report has no race.
-no-entry : (n : ℕ) (xs : List Result) → NeverRaced xs → raceFrom n xs ≡ 0
-no-entry n [] h = refl
-no-entry n (x ∷ xs) h = rw (ne-eqb (x .mark) raceFound (h .0)) (no-entry (suc n) xs (h .1))
+no-entry : (r : Ring) (n : ℕ) (xs : List Result) → NeverRaced xs → entryWith (racedAt r) n xs ≡ 0
+no-entry r n [] h = refl
+no-entry r n (x ∷ xs) h = rw (ne-eqb (x .mark) raceFound (h .0), and-off (eqb (x .ring) r)) (no-entry r (suc n) xs (h .1))
+  where
+    and-off : (b : Bool) → (b && false) ≡ false
+    and-off true = refl
+    and-off false = refl
+
+never-of : (r : Ring) (xs : List Result) → NeverRaced xs → NeverRaced (ofRing r xs)
+never-of r [] h = tt
+never-of r (x ∷ xs) h = cond-elim NeverRaced (eqb (x .ring) r) (x ∷ ofRing r xs) (ofRing r xs) (λ e. (h .0, never-of r xs (h .1))) (λ e. never-of r xs (h .1))
 
 no-partner : (xs : List Result) → NeverRaced xs → partnerOf xs ≡ 0
 no-partner [] h = refl
@@ -43,37 +55,70 @@ completed-le c (x ∷ xs) (b ∷ bs) =
     (λ e. cond-elim (λ (l : List ℕ). total l ≤ b + total bs) (markedOf c indexStored x) (b ∷ completedOf c xs bs) (completedOf c xs (b ∷ bs))
     (λ k. omega arith) (λ k. j))
 
+-- A ring's report and out, read.
+module _ (p : Ring → Part) (names : ℕ → Named) (fair : (r : Ring) → Fair (p r)) {es : List Entry} {xs : List Result} {s : State}
+    (run : Runs (machineOf p names) (freshOf p) es xs s) (r : Ring) (small : total (p r .pushSizes) ≤ mostFileBytes) where
+  abbrev g : Shape
+  g = machineOf p names
+
+  abbrev mine : List Result
+  mine = ofRing r xs
+
+  abbrev k : Flows r (p r) mine s
+  k = flows p names fair run r
+
+  few : pushed r (p r) mine ≤ mostFileBytes
+  few = let a = completed-le (pusher r) mine (p r .pushSizes) in omega arith
+
+  tells-pushed : (rest : List ℕ) → bytesPushed (bytesOf (reportOf g r (p r) xs s) ++ rest) ≡ pushed r (p r) mine
+  unfolding reportOf
+  tells-pushed rest = let a = few in reads-back (reportOf g r (p r) xs s) rest 2 (omega arith) (omega arith)
+
+  tells-popped : (rest : List ℕ) → bytesPopped (bytesOf (reportOf g r (p r) xs s) ++ rest) ≡ popped r (p r) mine
+  unfolding reportOf
+  tells-popped rest = let a = few in let b = k .occupancy-is in reads-back (reportOf g r (p r) xs s) rest 3 (omega arith) (omega arith)
+
+  tells-occupancy : (rest : List ℕ) → occupancyTold (bytesOf (reportOf g r (p r) xs s) ++ rest) ≡ occupancy r (p r .modulus) (s .trace)
+  unfolding reportOf
+  tells-occupancy rest = let a = few in let b = k .occupancy-is in reads-back (reportOf g r (p r) xs s) rest 5 (omega arith) (omega arith)
+
+  -- WHATEVER THE ORDERS, what the buffers tell of the ring.
+  pub ring-told : (rest past : List ℕ) → Told r (p r) mine (s .queue r .out ++ past) (bytesOf (reportOf g r (p r) xs s) ++ rest)
+  ring-told rest past =
+      let pu = tells-pushed rest in
+      let po = tells-popped rest in
+      let oc = tells-occupancy rest in
+      let oi = k .occupancy-is in
+      let wr = k .within-ring in
+      let ins : length (pushedBytes r s) ≡ pushed r (p r) mine = rw (same-self (pusher r)) at (completed-bytes p names r (pusher r) run) in
+      let outs : length (poppedBytes r s) ≡ popped r (p r) mine = rw (not-same (pusher r)) at (completed-bytes p names r (other (pusher r)) run) in
+      record {
+        occupancy-is = omega arith;
+        within-ring = omega arith;
+        as-many = ap length (sym (k .from-the-file)) ∙ ins ∙ sym pu;
+        first-in-first-out = rw (po, k .out-begins)
+            (ap (take (popped r (p r) mine)) (append-assoc (poppedBytes r s) (s .queue r .side (other (pusher r)) .moved) past)
+            ∙ take-at (poppedBytes r s) _ (popped r (p r) mine) outs ∙ k .first-in-first-out ∙ ap (take (popped r (p r) mine)) (k .from-the-file));
+      }
+
+  -- WHERE NO ENTRY RACED, the report tells of no race.
+  pub no-race-told : NeverRaced xs → (rest : List ℕ) → NoRaceTold (bytesOf (reportOf g r (p r) xs s) ++ rest)
+  unfolding reportOf
+  no-race-told h rest =
+      let e = no-entry r 1 xs h in
+      let q = no-partner mine (never-of r xs h) in
+      record {
+        no-race-entry = reads-back (reportOf g r (p r) xs s) rest 8 (omega arith) (omega arith) ∙ e;
+        no-race-partner = reads-back (reportOf g r (p r) xs s) rest 9 (omega arith) (omega arith) ∙ q;
+      }
+
+-- The marks in their buffer.
+pub marks-there : (xs : List Result) (marks : List ℕ) → take (length xs) (marksOf xs ++ drop (length xs) marks) ≡ marksOf xs
+marks-there xs marks = take-at (marksOf xs) (drop (length xs) marks) (length xs) (length-map xs (λ (x : Result). x .mark))
+
 bytes-few : (f : List ℕ) → Ranges f → total (pushSizes f) ≤ 65536
 unfolding scheduleAt
 bytes-few f h = let a = h .bytes-in in let b = h .bounded in omega arith
-
--- The report of a run, read.
-module _ (f : List ℕ) (xs : List Result) (s : State) (k : Kept f xs s) (h : Ranges f) (rest : List ℕ) where
-  abbrev told : List ℕ
-  told = bytesOf (numbersOf f xs s) ++ rest
-
-  few : pushed f xs ≤ 65536
-  few = let a = completed-le core0 xs (pushSizes f) in let b = bytes-few f h in omega arith
-
-  pub tells-pushed : bytesPushed told ≡ pushed f xs
-  unfolding numbersOf
-  tells-pushed = let a = few in reads-back (numbersOf f xs s) rest 2 (omega arith) (omega arith)
-
-  pub tells-popped : bytesPopped told ≡ popped f xs
-  unfolding numbersOf
-  tells-popped = let a = few in let b = k .occupancy-is in reads-back (numbersOf f xs s) rest 3 (omega arith) (omega arith)
-
-  pub tells-occupancy : occupancyTold told ≡ occupancy (modulusOf f) (s .trace)
-  unfolding numbersOf
-  tells-occupancy = let a = few in let b = k .occupancy-is in reads-back (numbersOf f xs s) rest 5 (omega arith) (omega arith)
-
-  pub tells-race : raceEntry told ≡ 0
-  unfolding numbersOf
-  tells-race = let e = no-entry 1 xs (k .no-race-mark) in reads-back (numbersOf f xs s) rest 8 (omega arith) (omega arith) ∙ e
-
-  pub tells-partner : racePartner told ≡ 0
-  unfolding numbersOf
-  tells-partner = let e = no-partner xs (k .no-race-mark) in reads-back (numbersOf f xs s) rest 9 (omega arith) (omega arith) ∙ e
 
 -- THE PROMISE OF A CALL
 pub strong-call-keeps : StrongCallKeeps
@@ -82,27 +127,17 @@ strong-call-keeps f marks out report r marks′ out′ report′ o zero strong =
     let ran = o .lawful zero in
     let xs = ran .results in
     let s = ran .end in
-    let k = strong-keeps f lawful strong (scheduleOf f) xs s (ran .run) in
-    let h = lawful-ranges f lawful in
+    let past = drop (length (s .queue firstRing .out)) out in
     let rest = drop reportBytes report in
-    let er = ran .report-is in
-    let pu : bytesPushed report′ ≡ pushed f xs = ap bytesPushed er ∙ tells-pushed f xs s k h rest in
-    let po : bytesPopped report′ ≡ popped f xs = ap bytesPopped er ∙ tells-popped f xs s k h rest in
-    let oc : occupancyTold report′ ≡ occupancy (modulusOf f) (s .trace) = ap occupancyTold er ∙ tells-occupancy f xs s k h rest in
-    let oi = k .occupancy-is in let wr = k .within-ring in
-    let ins = pushed-bytes f (ran .run) in
-    let outs = popped-bytes f (ran .run) in
+    let k = strong-keeps f lawful strong (scheduleOf f) xs s (ran .run) in
+    let few = bytes-few f (lawful-ranges f lawful) in
+    let fair : (r : Ring) → Fair (partOf f) = λ r. lawful-fair f lawful in
     record {
-      no-race-entry = ap raceEntry er ∙ tells-race f xs s k h rest;
-      no-race-partner = ap racePartner er ∙ tells-partner f xs s k h rest;
-      occupancy-is = omega arith;
-      within-ring = omega arith;
       results = xs;
       end = s;
       run = ran .run;
-      marks-are = rw (ran .marks-are) (take-at (marksOf xs) (drop (length xs) marks) (length xs) (length-map xs (λ (x : Result). x .mark)));
-      as-many = ap length (sym (k .from-the-file)) ∙ ins ∙ sym pu;
-      first-in-first-out = rw (po, ran .out-is, k .out-begins)
-          (ap (take (popped f xs)) (append-assoc (poppedBytes s) (s .queue .side core1 .moved) _)
-          ∙ take-at (poppedBytes s) _ (popped f xs) outs ∙ k .first-in-first-out ∙ ap (take (popped f xs)) (k .from-the-file));
+      marks-are = rw (ran .marks-are) (marks-there xs marks);
+      no-race = rw (ran .report-is) (no-race-told (λ r. partOf f) namesOne fair (ran .run) firstRing few (k .calm .no-race-mark) rest);
+      told = rw (ran .out-is, ran .report-is) (subst (λ l. Told firstRing (partOf f) l (s .queue firstRing .out ++ past) (bytesOf (numbersOf f xs s) ++ rest))
+          (of-one-ring f (ran .run)) (ring-told (λ r. partOf f) namesOne fair (ran .run) firstRing few rest past));
     }

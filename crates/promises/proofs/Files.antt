@@ -9,62 +9,41 @@ use borrow.Author.Tests.{le-ltb, eq-eqb, ne-eqb}
 use Rattle.order.specs.Trace.{Core, core0, core1}
 use Rattle.model.specs.Limits.{mostSlots, leastModulus, mostModulus, mostOrderBits, headerBytes, mostFileBytes}
 use Rattle.model.specs.File.{byteAt, total, ringSize, modulusOf, orderBits, pushSizes, popSizes, sizesEnd, scheduleAt, Entry, pairs, scheduleOf}
-use Rattle.model.specs.Codes.{fileTable, Lawful}
+use Rattle.model.specs.Codes.{Lawful}
+use Rattle.model.specs.Run.{firstRing}
 use Rattle.model.proofs.Inverse.{four-read}
-use Rattle.model.proofs.Laid.{Ranges}
+use Rattle.model.proofs.Laid.{ranges-lawful}
 use Rattle.promises.specs.Weak.{turns, producer, consumer, payload, setting, backFile, frontFile}
-use Rattle.promises.proofs.Turn.{entry}
+use Rattle.promises.proofs.Turn.{coreByte, entry}
 use Rattle.promises.proofs.Course.{times}
 
--- A file in these ranges is lawful.
-pub ranges-lawful : (f : List ℕ) → Ranges f → Lawful f
-unfolding fileTable
-ranges-lawful f r =
-    let s = r .some-slot in
-    let a = r .above in
-    let v = r .even in
-    rw (
-      le-ltb (length f) headerBytes (r .header),
-      le-ltb mostFileBytes (length f) (r .bounded),
-      ne-eqb (ringSize f) 0 (λ e. omega arith),
-      le-ltb mostSlots (ringSize f) (r .slots),
-      le-ltb (modulusOf f) leastModulus (r .modulus-low),
-      le-ltb mostModulus (modulusOf f) (r .modulus-high),
-      eq-eqb (modulusOf f % ringSize f) 0 (r .divided),
-      ne-eqb (modulusOf f) (ringSize f) (λ e. omega arith),
-      le-ltb mostOrderBits (orderBits f) (r .orders),
-      le-ltb (length f) (sizesEnd f) (r .sizes-in),
-      le-ltb (length f) (scheduleAt f) (r .bytes-in),
-      ne-eqb ((length f - scheduleAt f) % 2) 1 (λ e. omega arith),
-    )
-
-length-turns : (core k : ℕ) (rest : List ℕ) → length (turns core k rest) ≡ 2 * k + length rest
+pub length-turns : (core k : ℕ) (rest : List ℕ) → length (turns core k rest) ≡ 2 * k + length rest
 length-turns core zero rest = omega arith
 length-turns core (suc k) rest = let ih = length-turns core k rest in omega arith
 
-turns-are : (k : ℕ) (rest : List ℕ) → pairs (turns producer k rest) ≡ times core0 k (pairs rest)
+turns-are : (k : ℕ) (rest : List ℕ) → pairs (turns producer k rest) ≡ times firstRing (coreByte firstRing) core0 k (pairs rest)
 turns-are zero rest = refl
-turns-are (suc k) rest = ap (λ es. entry core0 ∷ es) (turns-are k rest)
+turns-are (suc k) rest = ap (λ es. entry firstRing (coreByte firstRing) core0 ∷ es) (turns-are k rest)
 
-times-last : (c : Core) (k : ℕ) (es : List Entry) → times c k (entry c ∷ es) ≡ entry c ∷ times c k es
+times-last : (c : Core) (k : ℕ) (es : List Entry) → times firstRing (coreByte firstRing) c k (entry firstRing (coreByte firstRing) c ∷ es) ≡ entry firstRing (coreByte firstRing) c ∷ times firstRing (coreByte firstRing) c k es
 times-last c zero es = refl
-times-last c (suc k) es = ap (λ xs. entry c ∷ xs) (times-last c k es)
+times-last c (suc k) es = ap (λ xs. entry firstRing (coreByte firstRing) c ∷ xs) (times-last c k es)
 
 -- A list of bytes.
-abbrev Bytes : List ℕ → Type 0
+abbrev pub Bytes : List ℕ → Type 0
 Bytes [] = Unit {0}
 Bytes (x ∷ l) = (x < 256) × Bytes l
 
-bytes-at : (l : List ℕ) → Bytes l → (i : ℕ) → byteAt l i < 256
+pub bytes-at : (l : List ℕ) → Bytes l → (i : ℕ) → byteAt l i < 256
 bytes-at [] h i = omega arith
 bytes-at (x ∷ l) h zero = h .0
 bytes-at (x ∷ l) h (suc i) = bytes-at l (h .1) i
 
-bytes-replicate : (n x : ℕ) (l : List ℕ) → x < 256 → Bytes l → Bytes (replicate n x ++ l)
+pub bytes-replicate : (n x : ℕ) (l : List ℕ) → x < 256 → Bytes l → Bytes (replicate n x ++ l)
 bytes-replicate zero x l h k = k
 bytes-replicate (suc n) x l h k = (h, bytes-replicate n x l h k)
 
-bytes-turns : (core k : ℕ) (l : List ℕ) → core < 256 → Bytes l → Bytes (turns core k l)
+pub bytes-turns : (core k : ℕ) (l : List ℕ) → core < 256 → Bytes l → Bytes (turns core k l)
 bytes-turns core zero l h k = k
 bytes-turns core (suc n) l h k = (h, (omega arith, bytes-turns core n l h k))
 
@@ -104,7 +83,7 @@ module _ (m M bits : ℕ) (m1 : 1 ≤ m) (mh : m ≤ mostSlots) (Ml : leastModul
   bytes-so : (rest : List ℕ) → Bytes rest → Bytes (setting m M bits rest)
   bytes-so rest h = (omega arith, (omega arith, (omega arith, (omega arith, (omega arith, (omega arith, h))))))
 
-  pub back-parts : Parts m M bits (backFile m M bits) (1 ∷ []) (times core0 3 (times core1 3 []))
+  pub back-parts : Parts m M bits (backFile m M bits) (1 ∷ []) (times firstRing (coreByte firstRing) core0 3 (times firstRing (coreByte firstRing) core1 3 []))
   unfolding backFile total pushSizes popSizes scheduleAt scheduleOf
   back-parts = record {
     bytes = bytes-at (backFile m M bits) (bytes-so (drop 6 (backFile m M bits)) (omega arith));
@@ -120,7 +99,7 @@ module _ (m M bits : ℕ) (m1 : 1 ≤ m) (mh : m ≤ mostSlots) (Ml : leastModul
   abbrev tail : List ℕ
   tail = turns producer (suc (suc m)) (turns consumer 4 (turns producer 3 []))
 
-  pub front-parts : Parts m M bits (frontFile m M bits) (m ∷ 1 ∷ []) (entry core0 ∷ times core0 m (entry core0 ∷ times core1 4 (times core0 3 [])))
+  pub front-parts : Parts m M bits (frontFile m M bits) (m ∷ 1 ∷ []) (entry firstRing (coreByte firstRing) core0 ∷ times firstRing (coreByte firstRing) core0 m (entry firstRing (coreByte firstRing) core0 ∷ times firstRing (coreByte firstRing) core1 4 (times firstRing (coreByte firstRing) core0 3 [])))
   unfolding frontFile total pushSizes popSizes scheduleAt scheduleOf
   front-parts =
       let l₁ : length tail ≡ 2 * suc (suc m) + 14 = length-turns producer (suc (suc m)) _ in
@@ -141,5 +120,5 @@ module _ (m M bits : ℕ) (m1 : 1 ≤ m) (mh : m ≤ mostSlots) (Ml : leastModul
         pops-are = refl;
         entries-are = ap pairs (
             sym (drop-drop (m + (1 + 0)) 11 (frontFile m M bits)) ∙ drop-at (replicate (suc m) payload) tail (m + (1 + 0)) (omega arith))
-            ∙ turns-are (suc (suc m)) _ ∙ ap (λ es. entry core0 ∷ es) (sym (times-last core0 m _));
+            ∙ turns-are (suc (suc m)) _ ∙ ap (λ es. entry firstRing (coreByte firstRing) core0 ∷ es) (sym (times-last core0 m _));
       }

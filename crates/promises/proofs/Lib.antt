@@ -15,3 +15,4 @@ pub mod Course
 pub mod Files
 pub mod Weak
 pub mod Shortfall
+pub mod Pair

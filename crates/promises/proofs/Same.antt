@@ -1,26 +1,26 @@
 -- Only two answers matter: order bits with which back synchronises alike, and front alike, give the same outcome.
 use mathlib.Core.Path.{_≡_, refl, sym, ap, _∙_}
 use mathlib.Core.Logic.{_≢_}
-use mathlib.Core.Bool.{Bool, true, false}
+use mathlib.Core.Bool.{Bool, true, false, cond}
 use mathlib.Core.Option.{Option, none, some}
 use mathlib.Core.List.{List, [], _∷_}
-use Prim.Native.Nat.{ℕ, _+_, _≤_}
+use Prim.Native.Nat.{ℕ, zero, suc, _+_, _≤_}
 use native.Mathlib.Omega.{arith}
 use native.Mathlib.Decide.{decLe}
 use lib.ListN.{length, getElem?, replicate, length-set}
 use lib.Seq.{set-out, getD-set-same, getD-set-other, drop-set-lt}
 use borrow.Author.Tests.{le-ltb}
-use Rattle.order.specs.Trace.{Core, core0, core1, other, Place, index, slot, Act, idle, load, store, Trace, stores}
+use Rattle.order.specs.Trace.{Core, core0, core1, other, Ring, Place, index, slot, Act, idle, load, store, Trace, stores}
 use Rattle.order.specs.Order.{Orders}
 use Rattle.order.specs.computed.Record.{syncs, learn, know}
 use Rattle.order.proofs.Chain.{Formed}
 use Rattle.model.specs.Limits.{mostOrderBits, headerBytes}
-use Rattle.model.specs.File.{byteAt, ringSize, modulusOf, orderBits, pushCount, pushSizes, popSizes, sizesEnd, pushBytes, scheduleAt, Entry, scheduleOf, ordersOf}
+use Rattle.model.specs.File.{byteAt, ringSize, modulusOf, orderBits, pushCount, pushSizes, popSizes, sizesEnd, pushBytes, scheduleAt, Entry, scheduleOf, ordersOf, partOf}
 use Rattle.model.specs.Codes.{fileTable, bufferTable, table, codeOf}
-use Rattle.model.specs.Queue.{Shape, Phase, start, reload, moving, Side, Queue}
+use Rattle.model.specs.Queue.{Named, nobody, named, Shape, Phase, start, reload, moving, Side, Queue, pushes}
 use Rattle.model.specs.Plan.{Plan, refuse, perform, unless-hidden, unless-race, foreignLoadOf, inBatch, ofBatches, plan}
-use Rattle.model.specs.Run.{Result, State, after, coreOf, theRing, Runs, shapeOf, freshSide, fresh}
-use Rattle.model.specs.Report.{missed, shortfallsOf, largest, largestShortfall, numbersOf}
+use Rattle.model.specs.Run.{Result, State, after, firstRing, namesOne, Runs, shapeOf, freshSide, fresh}
+use Rattle.model.specs.Report.{ofRing, missed, shortfallsOf, largest, largestShortfall, reportOf, numbersOf}
 use Rattle.model.specs.Outcome.{Ran, Outcome}
 use Rattle.model.specs.computed.Machine.{decided, entered, step, results, ends}
 use Rattle.model.proofs.Some.{some-run}
@@ -32,12 +32,14 @@ abbrev Agree : Orders → Orders → Type 0
 Agree o p = (c : Core) (x : Place) → syncs o c x ≡ syncs p c x
 
 -- The two answers decide it.
-bits-agree : (a b : ℕ) → backSyncs a ≡ backSyncs b → frontSyncs a ≡ frontSyncs b → Agree (ordersOf a) (ordersOf b)
+bits-agree : (a b : ℕ) → backSyncs a ≡ backSyncs b → frontSyncs a ≡ frontSyncs b → Agree (ordersOf (λ r. a)) (ordersOf (λ r. b))
 bits-agree a b back front c (slot r y) = refl
 bits-agree a b back front core0 (index r core0) = refl
 bits-agree a b back front core1 (index r core1) = refl
-bits-agree a b back front core0 (index r core1) = front
-bits-agree a b back front core1 (index r core0) = back
+bits-agree a b back front core0 (index zero core1) = front
+bits-agree a b back front core1 (index zero core0) = back
+bits-agree a b back front core0 (index (suc r) core1) = back
+bits-agree a b back front core1 (index (suc r) core0) = front
 
 -- So the record is the same, and what it decides.
 module _ (o p : Orders) (h : Agree o p) where
@@ -50,44 +52,44 @@ module _ (o p : Orders) (h : Agree o p) where
   know-same [] c = refl
   know-same (a ∷ t) c = rw (know-same t c, learn-same c a)
 
-  decided-same : (c : Core) (q : Queue) (t : Trace) (w : Plan) → decided o c q t w ≡ decided p c q t w
-  decided-same c q t (refuse n) = refl
-  decided-same c q t (perform n a z) = refl
-  decided-same c q t (unless-hidden x s n z) = rw (know-same t c)
-  decided-same c q t (unless-race x a n z) = rw (know-same t c)
+  decided-same : (r : Ring) (c : Core) (q : Queue) (t : Trace) (w : Plan) → decided o r c q t w ≡ decided p r c q t w
+  decided-same r c q t (refuse n) = refl
+  decided-same r c q t (perform n a z) = refl
+  decided-same r c q t (unless-hidden x s n z) = rw (know-same t c)
+  decided-same r c q t (unless-race x a n z) = rw (know-same t c)
 
 -- A machine of this size and modulus, with these orders.
 abbrev ofOrders : (m M : ℕ) → Orders → Shape
-ofOrders m M o = record { size = m; modulus = M; orders = o }
+ofOrders m M o = record { size = λ r. m; modulus = λ r. M; orders = o; names = namesOne }
 
 -- A plan is made without regard to the orders.
-module _ (m M : ℕ) (o p : Orders) where
+module _ (m M : ℕ) (o p : Orders) (r : Ring) where
   foreign-same : (c : Core) (q : Queue) (t : Trace) (n : ℕ) (rest : List ℕ) (s : Option ℕ)
-      → foreignLoadOf (ofOrders m M o) theRing c q t n rest s ≡ foreignLoadOf (ofOrders m M p) theRing c q t n rest s
+      → foreignLoadOf (ofOrders m M o) r c q t n rest s ≡ foreignLoadOf (ofOrders m M p) r c q t n rest s
   foreign-same c q t n rest none = refl
   foreign-same c q t n rest (some s) = refl
 
   batch-same : (c : Core) (q : Queue) (t : Trace) (age n : ℕ) (rest : List ℕ) (w : Phase)
-      → inBatch (ofOrders m M o) theRing c q t age n rest w ≡ inBatch (ofOrders m M p) theRing c q t age n rest w
+      → inBatch (ofOrders m M o) r c q t age n rest w ≡ inBatch (ofOrders m M p) r c q t age n rest w
   batch-same c q t age n rest start = refl
-  batch-same c q t age n rest reload = foreign-same c q t n rest (getElem? (stores t (index theRing (other c))) age)
+  batch-same c q t age n rest reload = foreign-same c q t n rest (getElem? (stores t (index r (other c))) age)
   batch-same c q t age n rest (moving i) = refl
 
   batches-same : (c : Core) (q : Queue) (t : Trace) (age : ℕ) (ns : List ℕ)
-      → ofBatches (ofOrders m M o) theRing c q t age ns ≡ ofBatches (ofOrders m M p) theRing c q t age ns
+      → ofBatches (ofOrders m M o) r c q t age ns ≡ ofBatches (ofOrders m M p) r c q t age ns
   batches-same c q t age [] = refl
   batches-same c q t age (n ∷ rest) = batch-same c q t age n rest (q .side c .phase)
 
 module _ (m M : ℕ) (o p : Orders) (h : Agree o p) where
-  entered-same : (s : State) (age : ℕ) (c : Option Core) (b : Bool) → entered (ofOrders m M o) s age c b ≡ entered (ofOrders m M p) s age c b
-  entered-same s age none b = refl
-  entered-same s age (some c) true = refl
-  entered-same s age (some c) false =
-      decided-same o p h c (s .queue) (s .trace) (plan (ofOrders m M o) theRing c (s .queue) (s .trace) age)
-      ∙ ap (decided p c (s .queue) (s .trace)) (batches-same m M o p c (s .queue) (s .trace) age (s .queue .side c .batches))
+  entered-same : (s : State) (age : ℕ) (c : Named) (b : Bool) → entered (ofOrders m M o) s age c b ≡ entered (ofOrders m M p) s age c b
+  entered-same s age nobody b = refl
+  entered-same s age (named r c) true = refl
+  entered-same s age (named r c) false =
+      decided-same o p h r c (s .queue r) (s .trace) (plan (ofOrders m M o) r c (s .queue r) (s .trace) age)
+      ∙ ap (decided p r c (s .queue r) (s .trace)) (batches-same m M o p r c (s .queue r) (s .trace) age (s .queue r .side c .batches))
 
   step-same : (s : State) (e : Entry) → step (ofOrders m M o) s e ≡ step (ofOrders m M p) s e
-  step-same s e = entered-same s (e .age) (coreOf (e .core)) (s .halted)
+  step-same s e = entered-same s (e .age) (namesOne (e .core)) (s .halted)
 
   results-same : (s : State) (es : List Entry) → results (ofOrders m M o) s es ≡ results (ofOrders m M p) s es
   results-same s [] = refl
@@ -140,8 +142,8 @@ module _ (f : List ℕ) (n : ℕ) where
   fresh-same : fresh (withBits f n) ≡ fresh f
   fresh-same = λ i. record {
     trace = [];
-    queue = record {
-      side = elim [ core0 ↦ freshSide (pushes-same i) | core1 ↦ freshSide (pops-same i) ];
+    queue = λ r. record {
+      side = λ c. freshSide (cond (pushes r c) (pushes-same i) (pops-same i));
       slots = replicate (size-same i) 0;
       feed = bytes-same i;
       out = [];
@@ -150,23 +152,24 @@ module _ (f : List ℕ) (n : ℕ) where
   }
 
   -- What is missing does not depend on the orders.
-  missed-same : (c : Core) (had : List ℕ) (me : Side) → missed (shapeOf (withBits f n)) c had me ≡ missed (shapeOf f) c had me
+  missed-same : (c : Core) (had : List ℕ) (me : Side) → missed (shapeOf (withBits f n)) firstRing c had me ≡ missed (shapeOf f) firstRing c had me
   missed-same c [] me = refl
   missed-same c (k ∷ rest) me = rw (modulus-same, size-same)
 
-  shortfalls-same : (c : Core) (q : Queue) (xs : List Result) → shortfallsOf (shapeOf (withBits f n)) c q xs ≡ shortfallsOf (shapeOf f) c q xs
+  shortfalls-same : (c : Core) (q : Queue) (xs : List Result) → shortfallsOf (shapeOf (withBits f n)) firstRing c q xs ≡ shortfallsOf (shapeOf f) firstRing c q xs
   shortfalls-same c q [] = refl
   shortfalls-same c q (x ∷ xs) = rw (shortfalls-same c (x .queue) xs, missed-same c (q .side c .batches) (x .queue .side c))
 
-  largest-same : (c : Core) (xs : List Result) → largestShortfall (withBits f n) c xs ≡ largestShortfall f c xs
+  largest-same : (c : Core) (xs : List Result)
+      → largestShortfall (shapeOf (withBits f n)) firstRing (partOf (withBits f n)) c xs ≡ largestShortfall (shapeOf f) firstRing (partOf f) c xs
   largest-same c xs =
-      ap (λ (s : State). largest (shortfallsOf (shapeOf (withBits f n)) c (s .queue) xs)) fresh-same ∙ ap largest (shortfalls-same c (fresh f .queue) xs)
+      ap (λ (s : State). largest (shortfallsOf (shapeOf (withBits f n)) firstRing c (s .queue firstRing) xs)) fresh-same ∙ ap largest (shortfalls-same c (fresh f .queue firstRing) xs)
 
   numbers-same : (xs : List Result) (z : State) → numbersOf (withBits f n) xs z ≡ numbersOf f xs z
-  unfolding numbersOf
+  unfolding reportOf
   numbers-same xs z =
-      let p = largest-same core0 xs in
-      let c = largest-same core1 xs in
+      let p = largest-same core0 (ofRing firstRing xs) in
+      let c = largest-same core1 (ofRing firstRing xs) in
       rw (p, c, pushes-same, pops-same, modulus-same)
 
   code-same : orderBits (withBits f n) ≤ mostOrderBits → orderBits f ≤ mostOrderBits → (a b c : ℕ) → codeOf (withBits f n) a b c ≡ codeOf f a b c
@@ -184,11 +187,11 @@ module _ (f : List ℕ) (n : ℕ) where
     byte-same 7 (omega arith),
   )
 
-  module _ (h : Agree (ordersOf (orderBits f)) (ordersOf (orderBits (withBits f n)))) where
+  module _ (h : Agree (ordersOf (λ r. orderBits f)) (ordersOf (λ r. orderBits (withBits f n)))) where
     run-same : (xs : List Result) (z : State) → Runs (shapeOf f) (fresh f) (scheduleOf f) xs z
         → Runs (shapeOf (withBits f n)) (fresh (withBits f n)) (scheduleOf (withBits f n)) xs z
     run-same xs z r = rw (fresh-same, schedule-same, modulus-same, size-same)
-        (runs-same (ringSize f) (modulusOf f) (ordersOf (orderBits f)) (ordersOf (orderBits (withBits f n))) h (fresh f) z (scheduleOf f) xs tt r)
+        (runs-same (ringSize f) (modulusOf f) (ordersOf (λ r. orderBits f)) (ordersOf (λ r. orderBits (withBits f n))) h (fresh f) z (scheduleOf f) xs tt r)
 
     ran-same : {marks out report marks′ out′ report′ : List ℕ}
         → Ran f marks out report marks′ out′ report′ → Ran (withBits f n) marks out report marks′ out′ report′

@@ -6,3 +6,4 @@ pub mod Coherence
 pub mod Same
 pub mod Weak
 pub mod Shortfall
+pub mod Pair
