@@ -1,5 +1,6 @@
 -- The crate's laws and proofs, file by file.
 pub mod Table
+pub mod Says
 pub mod Codes
 pub mod Total
 pub mod Ranges
@@ -19,9 +20,11 @@ pub mod Reach
 pub mod Memory
 pub mod Report
 pub mod Shortfall
+pub mod PairCodes
 pub mod PairRanges
 pub mod PairLaid
 pub mod PairOutcome
 pub mod Worked
+pub mod PairWorked
 pub mod Inverse
 pub mod Sides

@@ -65,4 +65,4 @@ pub numbers-of-one : (f : List ℕ) {z : State} {es : List Entry} {xs : List Res
     ∷ largestShortfall (shapeOf f) firstRing (partOf f) core1 xs
     ∷ []
 unfolding reportOf
-numbers-of-one f {xs = xs} run = rw (of-one-ring f run, race-of-all firstRing 1 xs (all-of-one f run))
+numbers-of-one f {xs = xs} run = cc (of-one-ring f run, race-of-all firstRing 1 xs (all-of-one f run))

@@ -12,5 +12,6 @@ pub mod RaceAnswer
 pub mod PairFile
 pub mod PairCodes
 pub mod PairOutcome
+pub mod PairWorked
 pub mod Worked
 pub mod computed
