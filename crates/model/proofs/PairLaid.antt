@@ -7,11 +7,11 @@ use lib.ListN.{length, getD, take, drop, length-drop}
 use lib.Seq.{drop-drop, length-take-le, getD-drop}
 use Rattle.order.specs.Trace.{Ring}
 use Rattle.model.specs.Limits.{headerBytes}
-use Rattle.model.specs.File.{byteAt, total, pushCount, popCount, Entry}
+use Rattle.model.specs.File.{byteAt, total, pushCount, popCount, Entry, flat}
 use Rattle.model.specs.Run.{firstRing}
 use Rattle.model.specs.PairFile.{secondRing, headerOf, sizesAt, pushSizesOf, popSizesOf, pairSizesEnd, bytesAt, pushBytesOf, pairScheduleAt, pairScheduleOf}
 use Rattle.model.specs.PairCodes.{LawfulPair}
-use Rattle.model.proofs.Laid.{flat, flat-pairs, length-pairs, pairs-at, headOf, head-is, part}
+use Rattle.model.proofs.Laid.{flat-pairs, length-pairs, pairs-at, headOf, head-is, part}
 use Rattle.model.proofs.PairRanges.{PairRanges, pair-ranges}
 
 -- THE LAYOUT of a lawful file: eight bytes for each ring; the first ring's push sizes and pop sizes, the second's; the first ring's bytes to push,

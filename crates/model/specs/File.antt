@@ -68,6 +68,11 @@ pairs [] = []
 pairs (a ∷ []) = []
 pairs (a ∷ b ∷ l) = record { core = a; age = b } ∷ pairs l
 
+-- Entries as bytes.
+abbrev pub flat : List Entry → List ℕ
+flat [] = []
+flat (e ∷ es) = e .core ∷ e .age ∷ flat es
+
 -- The schedule: the rest of the file.
 unfoldable pub scheduleOf : List ℕ → List Entry
 scheduleOf f = pairs (drop (scheduleAt f) f)

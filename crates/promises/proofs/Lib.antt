@@ -13,6 +13,13 @@ pub mod Same
 pub mod Turn
 pub mod Course
 pub mod Files
+pub mod Written
 pub mod Weak
+pub mod Seat
+pub mod Seated
+pub mod SeatedRun
+pub mod SeatedReport
+pub mod PairWritten
+pub mod Alone
 pub mod Shortfall
 pub mod Pair

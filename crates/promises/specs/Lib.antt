@@ -4,6 +4,8 @@ pub mod Strong
 pub mod Call
 pub mod Coherence
 pub mod Same
+pub mod Written
 pub mod Weak
 pub mod Shortfall
 pub mod Pair
+pub mod Alone
