@@ -12,8 +12,8 @@ pub mod Coherence
 pub mod Same
 pub mod Turn
 pub mod Course
-pub mod Files
 pub mod Written
+pub mod Bytes
 pub mod Weak
 pub mod Seat
 pub mod Seated
@@ -21,5 +21,6 @@ pub mod SeatedRun
 pub mod SeatedReport
 pub mod PairWritten
 pub mod Alone
+pub mod WeakPair
 pub mod Shortfall
 pub mod Pair

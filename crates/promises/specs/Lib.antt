@@ -9,3 +9,4 @@ pub mod Weak
 pub mod Shortfall
 pub mod Pair
 pub mod Alone
+pub mod WeakPair
