@@ -11,8 +11,8 @@ use Rattle.order.proofs.Trace.{clash, or-none}
 use Rattle.model.specs.Limits.{mostSlots, leastModulus, mostModulus, mostOrderBits, headerBytes, mostFileBytes, reportBytes}
 use Rattle.model.specs.File.{total, ringSize, modulusOf, orderBits, popSizes, sizesEnd, scheduleAt, scheduleOf}
 use Rattle.model.specs.Codes.{Row, row, divides, fileTable, bufferTable, table, firstOf, fileCode, codeOf}
-use Rattle.model.proofs.Codes.{file-rising, first-append}
 use Rattle.model.proofs.Laid.{length-pairs}
+use Rattle.model.proofs.Table.{Clear, none-applies, first-append}
 
 -- The bytes of the file from the schedule's beginning on.
 abbrev left : List ℕ → ℕ
@@ -90,8 +90,12 @@ module _ (f : List ℕ) (marks out report : ℕ) where
   unfolding scheduleOf
   entries = length-pairs (drop (scheduleAt f) f) ∙ ap (λ n. n / 2) (length-drop (scheduleAt f) f)
 
+  clear : fileCode f ≡ 0 → Clear (fileTable f)
+  unfolding fileTable
+  clear h = none-applies (fileTable f) (omega arith) h
+
   -- Then the tests of the buffers' lengths.
   pub buffers-next : fileCode f ≡ 0
       → codeOf f marks out report ≡ cond (ltb marks (left f / 2)) 9 (cond (ltb out (total (popSizes f))) 10 (cond (ltb report reportBytes) 11 0))
   unfolding codeOf table bufferTable
-  buffers-next h = first-append (fileTable f) (bufferTable f marks out report) (file-rising f) h ∙ rw entries
+  buffers-next h = first-append (fileTable f) (bufferTable f marks out report) (clear h) ∙ rw entries

@@ -2,6 +2,8 @@
 pub mod Buffers
 pub mod Cells
 pub mod Data
+pub mod Entry
+pub mod Fresh
 pub mod Join
 pub mod Kept
 pub mod Lists
@@ -12,6 +14,7 @@ pub mod Played
 pub mod Raced
 pub mod Rep
 pub mod ReportLaws
+pub mod Site
 pub mod Step
 pub mod Stored
 pub mod Turn

@@ -2,30 +2,27 @@
 use mathlib.Core.Path.{_≡_, refl, _∙_}
 use mathlib.Core.Bool.{Bool, true, false, cond, _&&_}
 use mathlib.Core.List.{List, [], _∷_}
-use Prim.Native.Nat.{ℕ, zero, suc, _+_, _/_, _%_, _<_, _≤_, max}
+use Prim.Native.Nat.{ℕ, zero, suc, _+_, _/_, _%_, _<_, max}
 use native.Mathlib.Omega.{arith}
 use native.Mathlib.Numerals.{add-one}
 use lib.Dec.{eqb, ltb}
 use lib.ListN.{getD, length, take, drop}
 use lib.Seq.{drop-cons, getD-take, getD-drop}
-use Rattle.order.specs.Trace.{Core, core0, core1, other, index, load, Trace}
+use Rattle.order.specs.Trace.{Core, core0, core1, other, sameCore, index, load, Trace}
 use Rattle.order.specs.computed.Record.{know, syncs}
 use Rattle.order.proofs.Trace.{same-self}
-use Rattle.model.specs.File.{byteAt, total, pushCount, popCount, pushSizes, popSizes, sizesEnd, pushBytes, ordersOf, bit}
+use Rattle.model.specs.File.{byteAt, total, pushCount, popCount, pushSizes, popSizes, sizesEnd, pushBytes, bit, partOf}
 use Rattle.model.specs.Codes.{Lawful}
 use Rattle.model.specs.Queue.{Phase, start, reload, moving}
+use Rattle.model.specs.Run.{firstRing, namesOne}
 use Rattle.model.proofs.Laid.{Ranges, Laid, lawful-ranges, lawful-laid}
 use Rattle.ring.specs.computed.Reads.{sizeAt, byteFor}
 use Rattle.ring.specs.computed.Moves.{syncsOf, learntOf, phaseAfter}
+use Rattle.ring.proofs.Site.{Site, part, shape, producer, seatOf, seat, sizesOf, Fit}
 
--- A core's place among the two.
-abbrev pub num : Core → ℕ
-num core0 = 0
-num core1 = 1
-
-abbrev pub sizesOf : List ℕ → Core → List ℕ
-sizesOf f core0 = pushSizes f
-sizesOf f core1 = popSizes f
+-- The one ring of a run file.
+abbrev pub siteOf : List ℕ → Site
+siteOf f = record { rings = λ r. partOf f; names = namesOne; ring = firstRing }
 
 -- A lawful file of bytes.
 pub record Good (f : List ℕ) : Type 0 where
@@ -33,35 +30,60 @@ pub record Good (f : List ℕ) : Type 0 where
   pub lawful : Lawful f
   pub ranges : Ranges f
   pub laid : Laid f
-
-pub good : (f : List ℕ) → Lawful f → ((k : ℕ) → byteAt f k < 256) → Good f
-good f h b = record { bytes = b; lawful = h; ranges = lawful-ranges f h; laid = lawful-laid f h }
+  pub fit : Fit (siteOf f)
 
 pub ranges-of : {f : List ℕ} → Lawful f → Ranges f
 ranges-of {f} h = lawful-ranges f h
 
 -- A part of a list of bytes is one.
-getD-take-small : (n : ℕ) (l : List ℕ) → ((k : ℕ) → getD l k 0 < 256) → (k : ℕ) → getD (take n l) k 0 < 256
+pub getD-take-small : (n : ℕ) (l : List ℕ) → ((k : ℕ) → getD l k 0 < 256) → (k : ℕ) → getD (take n l) k 0 < 256
 getD-take-small zero l h k = omega arith
 getD-take-small (suc n) [] h k = omega arith
 getD-take-small (suc n) (x ∷ l) h zero = h 0
 getD-take-small (suc n) (x ∷ l) h (suc k) = getD-take-small n l (λ j. h (suc j)) k
 
-module _ {f : List ℕ} (g : Good f) where
-  pub sizes-length : (c : Core) → length (sizesOf f c) ≡ byteAt f (6 + num c)
-  sizes-length core0 = g .laid .push-sizes
-  sizes-length core1 = g .laid .pop-sizes
+pub getD-drop-small : (n : ℕ) (l : List ℕ) → ((k : ℕ) → getD l k 0 < 256) → (k : ℕ) → getD (drop n l) k 0 < 256
+getD-drop-small n l h k = rw (getD-drop n l k 0) (h (n + k))
 
-  pub sizes-few : (c : Core) → length (sizesOf f c) ≤ 255
-  sizes-few c = omega (arith, sizes-length c, g .bytes (6 + num c))
+module _ {f : List ℕ} (b : (k : ℕ) → byteAt f k < 256) (laid : Laid f) where
+  lengths : (c : Core) → length (sizesOf (siteOf f) c) ≡ byteAt f (6 + seat (siteOf f) c)
+  lengths core0 = laid .push-sizes
+  lengths core1 = laid .pop-sizes
 
-  pub size-small : (c : Core) (b : ℕ) → getD (sizesOf f c) b 0 < 256
+  sizes-small : (c : Core) (k : ℕ) → getD (sizesOf (siteOf f) c) k 0 < 256
   unfolding pushSizes popSizes
-  size-small core0 b = getD-take-small (pushCount f) (drop 8 f) (λ k. rw (getD-drop 8 f k 0) (g .bytes (8 + k))) b
-  size-small core1 b =
-      getD-take-small (popCount f) (drop (8 + pushCount f) f) (λ k. rw (getD-drop (8 + pushCount f) f k 0) (g .bytes (8 + pushCount f + k))) b
+  sizes-small core0 k = getD-take-small (pushCount f) (drop 8 f) (getD-drop-small 8 f b) k
+  sizes-small core1 k = getD-take-small (popCount f) (drop (8 + pushCount f) f) (getD-drop-small (8 + pushCount f) f b) k
 
-  pub size-at : (c : Core) (b : ℕ) → getD (sizesOf f c) b 0 ≡ sizeAt f (num c) b
+  bytes-small : (k : ℕ) → getD (pushBytes f) k 0 < 256
+  unfolding pushBytes
+  bytes-small k = getD-take-small (total (pushSizes f)) (drop (sizesEnd f) f) (getD-drop-small (sizesEnd f) f b) k
+
+pub good : (f : List ℕ) → Lawful f → ((k : ℕ) → byteAt f k < 256) → Good f
+good f h b =
+    let r = lawful-ranges f h in
+    let l = lawful-laid f h in
+    record {
+      bytes = b;
+      lawful = h;
+      ranges = r;
+      laid = l;
+      fit = record {
+        some-slot = r .some-slot;
+        slots = r .slots;
+        modulus-low = r .modulus-low;
+        modulus-high = r .modulus-high;
+        few = λ c. omega (arith, lengths b l c, b (6 + seat (siteOf f) c));
+        small = sizes-small b l;
+        bytes = bytes-small b l;
+      };
+    }
+
+module _ {f : List ℕ} (g : Good f) where
+  pub sizes-length : (c : Core) → length (sizesOf (siteOf f) c) ≡ byteAt f (6 + seat (siteOf f) c)
+  sizes-length = lengths (g .bytes) (g .laid)
+
+  pub size-at : (c : Core) (b : ℕ) → sizeAt f (seat (siteOf f) c) b ≡ getD (sizesOf (siteOf f) c) b 0
   unfolding sizeAt
   size-at core0 b = refl
   size-at core1 b = refl
@@ -106,16 +128,22 @@ and-cond : (a b : Bool) → cond a b false ≡ (a && b)
 and-cond true b = refl
 and-cond false b = refl
 
-syncs-is : (n : ℕ) (c : Core) → syncsOf n (num c) ≡ syncs (ordersOf n) c (index 0 (other c))
+syncs-is : (u : Site) (c : Core) → syncsOf (part u .bits) (seat u c) ≡ syncs (shape u .orders) c (index (u .ring) (other c))
 unfolding syncsOf
-syncs-is n core0 = let e : n / 1 ≡ n = omega arith in rw e (and-cond (eqb (n % 2) 1) (bit n 3))
-syncs-is n core1 = and-cond (bit n 2) (bit n 1)
+syncs-is u c = go (producer u) c (part u .bits)
+  where
+    go : (p c : Core) (n : ℕ) → syncsOf n (seatOf p c)
+        ≡ (sameCore (other c) (other c) && (cond (sameCore p c) (bit n 0) (bit n 2) && cond (sameCore p (other c)) (bit n 1) (bit n 3)))
+    go core0 core0 n = let e : n / 1 ≡ n = omega arith in rw e (and-cond (eqb (n % 2) 1) (bit n 3))
+    go core0 core1 n = and-cond (bit n 2) (bit n 1)
+    go core1 core0 n = and-cond (bit n 2) (bit n 1)
+    go core1 core1 n = let e : n / 1 ≡ n = omega arith in rw e (and-cond (eqb (n % 2) 1) (bit n 3))
 
 learnt-go : (b : Bool) (a s : ℕ) → cond b (max a s) a ≡ max a (cond b s 0)
 learnt-go false a s = omega arith
 learnt-go true a s = refl
 
-pub learnt-is : (n : ℕ) (t : Trace) (c : Core) (s : ℕ)
-    → learntOf (syncsOf n (num c)) (know (ordersOf n) t c) s ≡ know (ordersOf n) (load c (index 0 (other c)) s ∷ t) c
+pub learnt-is : (u : Site) (t : Trace) (c : Core) (s : ℕ)
+    → learntOf (syncsOf (part u .bits) (seat u c)) (know (shape u .orders) t c) s ≡ know (shape u .orders) (load c (index (u .ring) (other c)) s ∷ t) c
 unfolding learntOf
-learnt-is n t c s = rw (syncs-is n c, same-self c) (learnt-go (syncs (ordersOf n) c (index 0 (other c))) (know (ordersOf n) t c) s)
+learnt-is u t c s = rw (syncs-is u c, same-self c) (learnt-go (syncs (shape u .orders) c (index (u .ring) (other c))) (know (shape u .orders) t c) s)

@@ -1,21 +1,22 @@
 -- How the code's state stands for the definition's: the relation that every step keeps. No function's contract mentions it.
-use mathlib.Core.Path.{_≡_, refl, _∙_}
-use mathlib.Core.Bool.{Bool, true, false, not, cond}
+use mathlib.Core.Path.{_≡_, refl, sym, _∙_}
+use mathlib.Core.Bool.{Bool, true, false, cond}
 use mathlib.Core.Option.{some}
 use mathlib.Core.List.{List, [], _∷_, _++_}
 use Prim.Native.Nat.{ℕ, suc, _+_, _<_, _≤_}
 use native.Mathlib.Omega.{arith}
-use lib.Dec.{eqb}
 use lib.ListN.{getD, set, length, take, drop, length-append}
 use lib.Seq.{getD-set-same, getD-set-other}
 use Rattle.order.specs.Trace.{Core, core0, core1, other, Place, index, slot, Act, idle, load, store, Trace, who, accesses}
+use Rattle.order.specs.Order.{Orders}
 use Rattle.order.specs.computed.Record.{know, learn, reads, seen, rival}
 use Rattle.order.proofs.Trace.{clash}
-use Rattle.model.specs.File.{ringSize, modulusOf, orderBits, total, pushBytes, ordersOf}
+use Rattle.model.specs.File.{total}
 use Rattle.model.specs.Marks.{batchFailed, raceFound}
-use Rattle.model.specs.Queue.{Phase, start, reload, moving, Side}
-use Rattle.model.specs.Run.{Result, State, fresh}
-use Rattle.model.specs.Report.{one, count, marked, markedOf, raceFrom, partnerOf, largestShortfall}
+use Rattle.model.specs.Queue.{Phase, start, reload, moving, Side, pushes}
+use Rattle.model.specs.Run.{Result, freshQueue}
+use Rattle.model.specs.Report.{one, count, marked, markedOf, partnerOf, largestShortfall}
+use Rattle.model.proofs.OneRing.{raceFrom}
 use Rattle.model.proofs.Total.{total-small}
 use Rattle.model.proofs.Shortfall.{lastQueue}
 use Rattle.ring.specs.declared.state.Slot.{Slot}
@@ -23,17 +24,20 @@ use Rattle.ring.specs.declared.state.Stores.{Stores}
 use Rattle.ring.specs.declared.state.Core as rc
 use Rattle.ring.specs.declared.state.Ring.{Ring}
 use Rattle.ring.specs.computed.State.{freshSlot, freshCore, coreAt, Short, Bounded}
-use Rattle.ring.proofs.Parts.{num, sizesOf, Good, sizes-few, size-small, phaseOf, progress}
+use Rattle.ring.proofs.Site.{Site, part, shape, producer, consumer, seatOf, seat, sizesOf, Fit, Local, seat-lt}
+use Rattle.ring.proofs.Parts.{phaseOf, progress}
 use Rattle.ring.proofs.Lists.{Listed, listed-some, ReadTo}
 
-abbrev pub listOf : Ring → Core → Stores
-listOf s core0 = s .back
-listOf s core1 = s .front
+abbrev pub listOf : Site → Ring → Core → Stores
+listOf u s c = cond (pushes (u .ring) c) (s .back) (s .front)
 
 -- One core moves and no list: both lists are what they were.
-pub list-same : (s s′ : Ring) → s′ .back ≡ s .back → s′ .front ≡ s .front → (e : Core) → listOf s′ e ≡ listOf s e
-list-same s s′ p q core0 = p
-list-same s s′ p q core1 = q
+pub list-same : (u : Site) (s s′ : Ring) → s′ .back ≡ s .back → s′ .front ≡ s .front → (e : Core) → listOf u s′ e ≡ listOf u s e
+list-same u s s′ p q e = go (pushes (u .ring) e)
+  where
+    go : (b : Bool) → cond b (s′ .back) (s′ .front) ≡ cond b (s .back) (s .front)
+    go true = p
+    go false = q
 
 -- Past its own load a core has a batch, and holds its size.
 abbrev pub Sized : List ℕ → (batch size : ℕ) → Phase → Type 0
@@ -42,18 +46,18 @@ Sized l b n reload = (b < length l) × (n ≡ getD l b 0) × (0 < n)
 Sized l b n (moving i) = (b < length l) × (n ≡ getD l b 0) × (i ≤ n)
 
 -- One core.
-pub record CoreRep (f : List ℕ) (t : Trace) (c : Core) (d : rc.Core) (me : Side) : Type 0 where
+pub record CoreRep (u : Site) (t : Trace) (c : Core) (d : rc.Core) (me : Side) : Type 0 where
   pub phase-is : d .phase ≡ phaseOf (d .size) (me .phase)
   pub moved-is : d .moved ≡ progress (me .phase)
-  pub batches-are : me .batches ≡ drop (d .batch) (sizesOf f c)
-  pub batch-le : d .batch ≤ length (sizesOf f c)
-  pub sized : Sized (sizesOf f c) (d .batch) (d .size) (me .phase)
+  pub batches-are : me .batches ≡ drop (d .batch) (sizesOf u c)
+  pub batch-le : d .batch ≤ length (sizesOf u c)
+  pub sized : Sized (sizesOf u c) (d .batch) (d .size) (me .phase)
   pub size-lt : d .size < 256
   pub own-is : d .own ≡ me .own
-  pub own-lt : me .own < modulusOf f
+  pub own-lt : me .own < part u .modulus
   pub cached-is : d .cached ≡ me .cached
-  pub known-is : d .known ≡ know (ordersOf (orderBits f)) t c
-  pub passed-is : d .passed ≡ total (take (d .batch) (sizesOf f c))
+  pub known-is : d .known ≡ know (shape u .orders) t c
+  pub passed-is : d .passed ≡ total (take (d .batch) (sizesOf u c))
   pub done-is : d .done ≡ length (me .completed)
   pub done-le : d .done ≤ d .passed
   pub bytes-moved : length (me .moved) ≡ d .moved
@@ -66,60 +70,58 @@ pub record Bytes (m : ℕ) (slots : List Slot) (bytes : List ℕ) : Type 0 where
   pub byte-is : (y : ℕ) → y < m → getD slots y freshSlot .byte ≡ getD bytes y 0
   pub byte-lt : (y : ℕ) → y < m → getD bytes y 0 < 256
 
-pub record Lately (m : ℕ) (t : Trace) (slots : List Slot) : Type 0 where
-  pub stored-is : (y : ℕ) → y < m → getD slots y freshSlot .stored ≡ rival t core1 (slot 0 y) false
-  pub loaded-is : (y : ℕ) → y < m → getD slots y freshSlot .loaded ≡ rival t core0 (slot 0 y) true
+pub record Lately (u : Site) (t : Trace) (slots : List Slot) : Type 0 where
+  pub stored-is : (y : ℕ) → y < part u .size → getD slots y freshSlot .stored ≡ rival t (consumer u) (slot (u .ring) y) false
+  pub loaded-is : (y : ℕ) → y < part u .size → getD slots y freshSlot .loaded ≡ rival t (producer u) (slot (u .ring) y) true
 
--- The whole state s stands for the definition's state st after the results xs.
-pub record Rep (f : List ℕ) (s : Ring) (st : State) (xs : List Result) : Type 0 where
-  pub size-is : s .size ≡ ringSize f
-  pub modulus-is : s .modulus ≡ modulusOf f
-  pub bits-are : s .bits ≡ orderBits f
-  pub halted-is : st .halted ≡ not (eqb (s .race) 0)
+-- The struct s stands for the ring in the definition's state st, xs being the results so far that count for it.
+pub record Rep (u : Site) (s : Ring) (st : Local) (xs : List Result) : Type 0 where
+  pub size-is : s .size ≡ part u .size
+  pub modulus-is : s .modulus ≡ part u .modulus
+  pub bits-are : s .bits ≡ part u .bits
+  pub quiet : st .halted ≡ false → (s .race ≡ 0) × (s .partner ≡ 0) × (raceFrom 1 xs ≡ 0)
   pub two-cores : length (s .cores) ≡ 2
-  pub core-is : (c : Core) → CoreRep f (st .trace) c (coreAt s (num c)) (st .queue .side c)
-  pub list-is : (c : Core) → Listed (modulusOf f) (st .trace) (index 0 c) (listOf s c)
-  pub read-is : (c : Core) → ReadTo (listOf s (other c)) (coreAt s (num c) .read) (seen (st .trace) c (index 0 (other c)))
-  pub list-few : (c : Core) → listOf s c .count ≤ 1 + coreAt s (num c) .batch
-  pub bytes-are : Bytes (ringSize f) (s .slots) (st .queue .slots)
-  pub lately : st .halted ≡ false → Lately (ringSize f) (st .trace) (s .slots)
-  pub feed-is : st .queue .feed ≡ drop (coreAt s 0 .passed + coreAt s 0 .moved) (pushBytes f)
-  pub out-long : length (st .queue .out) ≡ coreAt s 1 .done + coreAt s 1 .moved
-  pub failed-is : (c : Core) → coreAt s (num c) .failed ≡ count (markedOf c batchFailed) xs
-  pub queue-is : lastQueue (fresh f .queue) xs ≡ st .queue
-  pub largest-is : (c : Core) → coreAt s (num c) .largest ≡ largestShortfall f c xs
-  pub race-is : s .race ≡ raceFrom 1 xs
+  pub core-is : (c : Core) → CoreRep u (st .trace) c (coreAt s (seat u c)) (st .queue .side c)
+  pub list-is : (c : Core) → Listed (part u .modulus) (st .trace) (index (u .ring) c) (listOf u s c)
+  pub read-is : (c : Core) → ReadTo (listOf u s (other c)) (coreAt s (seat u c) .read) (seen (st .trace) c (index (u .ring) (other c)))
+  pub list-few : (c : Core) → listOf u s c .count ≤ 1 + coreAt s (seat u c) .batch
+  pub bytes-are : Bytes (part u .size) (s .slots) (st .queue .slots)
+  pub lately : st .halted ≡ false → Lately u (st .trace) (s .slots)
+  pub feed-is : st .queue .feed ≡ drop (coreAt s (seat u (producer u)) .passed + coreAt s (seat u (producer u)) .moved) (part u .pushBytes)
+  pub out-long : length (st .queue .out) ≡ coreAt s (seat u (consumer u)) .done + coreAt s (seat u (consumer u)) .moved
+  pub failed-is : (c : Core) → coreAt s (seat u c) .failed ≡ count (markedOf c batchFailed) xs
+  pub queue-is : lastQueue (freshQueue (u .ring) (part u)) xs ≡ st .queue
+  pub largest-is : (c : Core) → coreAt s (seat u c) .largest ≡ largestShortfall (shape u) (u .ring) (part u) c xs
   pub partner-is : s .partner ≡ partnerOf xs
-  pub entries-are : length (st .trace) ≡ length xs
 
 -- What the moves ask follows.
 
-module _ {f : List ℕ} (g : Good f) {s : Ring} {st : State} {xs : List Result} (r : Rep f s st xs) where
+module _ {u : Site} (g : Fit u) {s : Ring} {st : Local} {xs : List Result} (r : Rep u s st xs) where
   pub size-pos : 0 < s .size
-  size-pos = omega (arith, r .size-is, g .ranges .some-slot)
+  size-pos = omega (arith, r .size-is, g .some-slot)
 
   pub size-le : s .size ≤ 128
-  size-le = omega (arith, r .size-is, g .ranges .slots)
+  size-le = omega (arith, r .size-is, g .slots)
 
   pub modulus-pos : 0 < s .modulus
-  modulus-pos = omega (arith, r .modulus-is, g .ranges .modulus-low)
+  modulus-pos = omega (arith, r .modulus-is, g .modulus-low)
 
   pub modulus-le : s .modulus ≤ 65536
-  modulus-le = omega (arith, r .modulus-is, g .ranges .modulus-high)
+  modulus-le = omega (arith, r .modulus-is, g .modulus-high)
 
-pub short : {f : List ℕ} {s : Ring} {st : State} {xs : List Result} → Good f → Rep f s st xs → (c : Core) → Short (listOf s c)
-short {f} {s} g r c = record {
+pub short : {u : Site} {s : Ring} {st : Local} {xs : List Result} → Fit u → Rep u s st xs → (c : Core) → Short (listOf u s c)
+short {u} {s} g r c = record {
   some = listed-some (r .list-is c);
-  few = omega (arith, r .list-few c, r .core-is c .batch-le, sizes-few g c);
+  few = omega (arith, r .list-few c, r .core-is c .batch-le, g .few c);
   beside = r .list-is c .beside;
 }
 
-pub bounded : {f : List ℕ} {s : Ring} {st : State} {xs : List Result} → Good f → Rep f s st xs → (c : Core)
-    → coreAt s (num c) .batch < length (sizesOf f c) → Bounded (coreAt s (num c))
-bounded {f} {s} g r c more =
+pub bounded : {u : Site} {s : Ring} {st : Local} {xs : List Result} → Fit u → Rep u s st xs → (c : Core)
+    → coreAt s (seat u c) .batch < length (sizesOf u c) → Bounded (coreAt s (seat u c))
+bounded {u} {s} g r c more =
     let d = r .core-is c in
-    let small = total-small (sizesOf f c) (coreAt s (num c) .batch) (size-small g c) in
-    let few = sizes-few g c in
+    let small = total-small (sizesOf u c) (coreAt s (seat u c) .batch) (g .small c) in
+    let few = g .few c in
     record {
       batch-lt = omega arith;
       size-lt = d .size-lt;
@@ -130,13 +132,18 @@ bounded {f} {s} g r c more =
 
 -- Putting a core.
 
-pub put-same : (l : List rc.Core) (c : Core) (d : rc.Core) → length l ≡ 2 → getD (set l (num c) d) (num c) freshCore ≡ d
-put-same l core0 d e = getD-set-same l 0 d freshCore (omega arith)
-put-same l core1 d e = getD-set-same l 1 d freshCore (omega arith)
+pub put-same : (u : Site) (l : List rc.Core) (c : Core) (d : rc.Core) → length l ≡ 2 → getD (set l (seat u c) d) (seat u c) freshCore ≡ d
+put-same u l c d e = getD-set-same l (seat u c) d freshCore (omega (arith, seat-lt u c))
 
-pub put-other : (l : List rc.Core) (c : Core) (d : rc.Core) → getD (set l (num c) d) (num (other c)) freshCore ≡ getD l (num (other c)) freshCore
-put-other l core0 d = getD-set-other l 0 1 d freshCore (λ e. omega arith)
-put-other l core1 d = getD-set-other l 1 0 d freshCore (λ e. omega arith)
+pub put-other : (u : Site) (l : List rc.Core) (c : Core) (d : rc.Core)
+    → getD (set l (seat u c) d) (seat u (other c)) freshCore ≡ getD l (seat u (other c)) freshCore
+put-other u l c d = getD-set-other l (seat u c) (seat u (other c)) d freshCore (λ e. go (producer u) c e)
+  where
+    go : (p c : Core) → ¬ (seatOf p (other c) ≡ seatOf p c)
+    go core0 core0 e = clash (sym e)
+    go core0 core1 e = clash e
+    go core1 core0 e = clash e
+    go core1 core1 e = clash (sym e)
 
 -- Of both cores, from the one that moved and the other.
 pub both : (P : Core → Type 0) (c : Core) → P c → P (other c) → (d : Core) → P d
@@ -145,13 +152,13 @@ both P core0 p q core1 = q
 both P core1 p q core0 = q
 both P core1 p q core1 = p
 
-pub other-learns-nothing : (a : Act) (c : Core) → who a ≡ some c → (n : ℕ) → learn (ordersOf n) (other c) a ≡ 0
-other-learns-nothing idle c e n = refl
-other-learns-nothing (store d x v) c e n = refl
-other-learns-nothing (load core0 x s) core0 e n = refl
-other-learns-nothing (load core1 x s) core1 e n = refl
-other-learns-nothing (load core0 x s) core1 e n = clash (cc)
-other-learns-nothing (load core1 x s) core0 e n = clash (cc)
+pub other-learns-nothing : (a : Act) (c : Core) → who a ≡ some c → (o : Orders) → learn o (other c) a ≡ 0
+other-learns-nothing idle c e o = refl
+other-learns-nothing (store d x v) c e o = refl
+other-learns-nothing (load core0 x s) core0 e o = refl
+other-learns-nothing (load core1 x s) core1 e o = refl
+other-learns-nothing (load core0 x s) core1 e o = clash (cc)
+other-learns-nothing (load core1 x s) core0 e o = clash (cc)
 
 pub other-reads-nothing : (a : Act) (c : Core) → who a ≡ some c → (x : Place) → reads (other c) x a ≡ 0
 other-reads-nothing idle c e x = refl
@@ -166,8 +173,8 @@ pub read-kept : (a : Act) (t : Trace) {l : Stores} {p : ℕ} (c : Core) (x : Pla
 read-kept a t c x e h = record { inside = h .inside; entry-is = omega (arith, h .entry-is) }
 
 -- A core that the action teaches nothing.
-pub core-kept : {f : List ℕ} (a : Act) {t : Trace} {c : Core} {d : rc.Core} {me : Side} → learn (ordersOf (orderBits f)) c a ≡ 0
-    → CoreRep f t c d me → CoreRep f (a ∷ t) c d me
+pub core-kept : {u : Site} (a : Act) {t : Trace} {c : Core} {d : rc.Core} {me : Side} → learn (shape u .orders) c a ≡ 0
+    → CoreRep u t c d me → CoreRep u (a ∷ t) c d me
 core-kept a e h = record {
   phase-is = h .phase-is;
   moved-is = h .moved-is;
@@ -187,10 +194,10 @@ core-kept a e h = record {
 }
 
 -- An action that accesses no slot leaves the latest accesses.
-pub lately-kept : (a : Act) {m : ℕ} {t : Trace} {l : List Slot} → ((c : Core) (y : ℕ) → accesses c (slot 0 y) a ≡ false) → Lately m t l → Lately m (a ∷ t) l
-lately-kept a e h = record {
-  stored-is = λ y l. h .stored-is y l ∙ rw (e core0 y);
-  loaded-is = λ y l. h .loaded-is y l ∙ rw (e core1 y);
+pub lately-kept : (a : Act) {u : Site} {t : Trace} {l : List Slot} → ((c : Core) (y : ℕ) → accesses c (slot (u .ring) y) a ≡ false) → Lately u t l → Lately u (a ∷ t) l
+lately-kept a {u} e h = record {
+  stored-is = λ y l. h .stored-is y l ∙ rw (e (other (consumer u)) y);
+  loaded-is = λ y l. h .loaded-is y l ∙ rw (e (other (producer u)) y);
 }
 
 -- One result more

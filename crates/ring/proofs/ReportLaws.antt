@@ -22,7 +22,7 @@ unfolding bytesOf
 bytes-append [] ys = refl
 bytes-append (x ∷ xs) ys = rw (bytes-append xs ys)
 
-bytes-length : (xs : List ℕ) → length (bytesOf xs) ≡ 4 * length xs
+pub bytes-length : (xs : List ℕ) → length (bytesOf xs) ≡ 4 * length xs
 unfolding bytesOf
 bytes-length [] = refl
 bytes-length (x ∷ xs) = omega (arith, bytes-length xs)

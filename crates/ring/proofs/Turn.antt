@@ -7,16 +7,17 @@ use native.Mathlib.Omega.{arith}
 use lib.ListN.{getD, set, length}
 use Rattle.order.specs.Trace.{next}
 use Rattle.model.specs.File.{byteAt, scheduleAt, scheduleOf}
-use Rattle.model.specs.Run.{refused, shapeOf}
+use Rattle.model.specs.Run.{refused, firstRing, shapeOf}
 use Rattle.model.specs.computed.Machine.{step}
 use Rattle.ring.specs.declared.state.Ring.{Ring}
 use Rattle.ring.specs.declared.state.Ran.{Ran}
 use Rattle.ring.specs.computed.State.{freshOf}
 use Rattle.ring.specs.computed.Run.{nextPlace, putByte, Ready, Finished}
-use Rattle.ring.proofs.Parts.{Good, good}
+use Rattle.ring.proofs.Parts.{siteOf, Good, good}
 use Rattle.ring.proofs.Join.{Joined}
-use Rattle.ring.proofs.Verdict.{answer, Goes, verdict}
-use Rattle.ring.proofs.Loop.{resultsTo, endTo, entryAt, Going, tried, going-none, going-refused, going-moved, out-long, pops-few, performed-le, finished}
+use Rattle.ring.proofs.Site.{here}
+use Rattle.ring.proofs.Entry.{answer, GoesOne, verdict}
+use Rattle.ring.proofs.Loop.{resultsTo, endTo, entryAt, Going, going-none, going-refused, going-moved, out-long, pops-few, performed-le, finished}
 
 -- THE LOOP'S INVARIANT: a lawful file of bytes, and the run so far.
 pub record Turning (f : List ℕ) (at n : ℕ) (marks₀ out₀ marks out : List ℕ) (s : Ring) (performed k i : ℕ) : Type 0 where
@@ -63,20 +64,20 @@ module _ {f : List ℕ} {at n : ℕ} {marks₀ out₀ marks out : List ℕ} {s :
     going = rw em (going-refused (z .fine) (z .going) left v (ev ∙ rw (the-core, the-age) refl) h);
   }
 
-  pub goes-on : v ≡ 0 → Goes f s (endTo f i) core age
-  goes-on h = go (verdict (z .fine) (z .going .rep) core age)
+  pub goes-on : v ≡ 0 → GoesOne f s (endTo f i) core age
+  goes-on h = go (verdict (z .fine) (z .going .rep) (z .going .halted-is) core age)
     where
-      go : ((step (shapeOf f) (endTo f i) (record { core = core; age = age }) ≡ refused (endTo f i .queue) (answer f s core age)) × (129 ≤ answer f s core age))
-          ⊎ (Goes f s (endTo f i) core age × (answer f s core age ≡ 0)) → Goes f s (endTo f i) core age
+      go : ((step (shapeOf f) (endTo f i) (record { core = core; age = age }) ≡ refused firstRing (endTo f i .queue firstRing) (answer f s core age)) × (129 ≤ answer f s core age))
+          ⊎ (GoesOne f s (endTo f i) core age × (answer f s core age ≡ 0)) → GoesOne f s (endTo f i) core age
       go (inr x) = x .0
       go (inl x) = absurd (omega (arith, ev, x .1))
 
   -- The entry's number.
   pub number-is : next (endTo f i .trace) ≡ i + 1
-  number-is = omega (arith, z .going .rep .entries-are, tried (z .going))
+  number-is = omega (arith, z .going .entries-are)
 
-  module _ {s′ : Ring} (j : Joined f s′ (endTo f i) (resultsTo f i) (step (shapeOf f) (endTo f i) (record { core = core; age = age }))) where
-    joined-here : Joined f s′ (endTo f i) (resultsTo f i) (step (shapeOf f) (endTo f i) (entryAt f i))
+  module _ {s′ : Ring} (j : Joined (siteOf f) s′ (here (endTo f i) firstRing) (resultsTo f i) (step (shapeOf f) (endTo f i) (record { core = core; age = age }))) where
+    joined-here : Joined (siteOf f) s′ (here (endTo f i) firstRing) (resultsTo f i) (step (shapeOf f) (endTo f i) (entryAt f i))
     joined-here = rw (the-core, the-age) at j
 
     pub moved-turns : (marks′ out′ : List ℕ) (k′ : ℕ) → marks′ ≡ set marks i (s′ .mark) → out′ ≡ putByte out k (s′ .mark) (s′ .byte)

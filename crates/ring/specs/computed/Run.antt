@@ -7,7 +7,7 @@ use lib.Dec.{eqb}
 use lib.ListN.{set, length, drop}
 use Rattle.model.specs.File.{total, popSizes, scheduleAt, scheduleOf}
 use Rattle.model.specs.Codes.{Lawful}
-use Rattle.model.specs.Run.{Result, State, shapeOf, fresh}
+use Rattle.model.specs.Run.{Result, State, firstRing, shapeOf, fresh}
 use Rattle.model.specs.Report.{numbersOf}
 use Rattle.model.specs.Outcome.{marksOf}
 use Rattle.model.specs.computed.Machine.{results, ends}
@@ -39,6 +39,6 @@ pub record Ready (f : List ℕ) (at n : ℕ) : Type 0 where
 -- The buffers, where they are long enough, hold the marks and the bytes of the computed run; the numbers are its numbers, whatever was lent.
 pub record Finished (f : List ℕ) (n : ℕ) (marks out : List ℕ) (r : Ran) (marks′ out′ : List ℕ) : Type 0 where
   pub marks-are : n ≤ length marks → marks′ ≡ marksOf (resultsOf f) ++ drop n marks
-  pub out-is : total (popSizes f) ≤ length out → out′ ≡ endOf f .queue .out ++ drop (length (endOf f .queue .out)) out
+  pub out-is : total (popSizes f) ≤ length out → out′ ≡ endOf f .queue firstRing .out ++ drop (length (endOf f .queue firstRing .out)) out
   pub numbers-are : toldOf r n ≡ numbersOf f (resultsOf f) (endOf f)
   pub countable : Countable r n
