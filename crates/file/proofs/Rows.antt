@@ -1,7 +1,7 @@
 -- The table of codes in the order in which the code tries it: the tests before one that holds do not apply.
 use mathlib.Core.Path.{_≡_, refl, ap, sym, _∙_}
 use mathlib.Core.Bool.{Bool, true, false, cond, _||_, not}
-use mathlib.Core.List.{List, [], _∷_, _++_}
+use mathlib.Core.List.{List, [], _∷_}
 use Prim.Native.Nat.{ℕ, zero, suc, _-_, _/_, _%_, _<_}
 use native.Mathlib.Omega.{arith}
 use lib.Dec.{eqb, ltb}
@@ -10,9 +10,9 @@ use borrow.Author.Tests.{eqb-false}
 use Rattle.order.proofs.Trace.{clash, or-none}
 use Rattle.model.specs.Limits.{mostSlots, leastModulus, mostModulus, mostOrderBits, headerBytes, mostFileBytes, reportBytes}
 use Rattle.model.specs.File.{total, ringSize, modulusOf, orderBits, popSizes, sizesEnd, scheduleAt, scheduleOf}
-use Rattle.model.specs.Codes.{Row, row, divides, fileTable, bufferTable, table, firstOf, fileCode, codeOf}
+use Rattle.model.specs.Codes.{Row, row, divides, fileTable, bufferTable, firstOf, fileCode, codeOf}
 use Rattle.model.proofs.Laid.{length-pairs}
-use Rattle.model.proofs.Table.{Clear, none-applies, first-append}
+use Rattle.model.proofs.Codes.{buffers-next}
 
 -- The bytes of the file from the schedule's beginning on.
 abbrev left : List ℕ → ℕ
@@ -71,31 +71,13 @@ module _ {f : List ℕ} where
 pub size-pos : (m : ℕ) → (eqb m 0 || ltb mostSlots m) ≡ false → 0 < m
 size-pos m h = let n = eqb-false m 0 (or-none (eqb m 0) (ltb mostSlots m) h .0) in omega arith
 
--- With buffers: the file's own code comes first.
-front : (xs ys : List Row) → ¬ (firstOf xs ≡ 0) → firstOf xs ≡ firstOf (xs ++ ys)
-front [] ys h = absurd (h refl)
-front (x ∷ xs) ys h = go (x .applies) (front xs ys) h
-  where
-    go : (b : Bool) → (¬ (firstOf xs ≡ 0) → firstOf xs ≡ firstOf (xs ++ ys)) → ¬ (cond b (x .code) (firstOf xs) ≡ 0)
-        → cond b (x .code) (firstOf xs) ≡ cond b (x .code) (firstOf (xs ++ ys))
-    go true ih k = refl
-    go false ih k = ih k
-
+-- The tests of the buffers' lengths, after those of the file.
 module _ (f : List ℕ) (marks out report : ℕ) where
-  pub file-first : ¬ (fileCode f ≡ 0) → fileCode f ≡ codeOf f marks out report
-  unfolding codeOf table
-  file-first h = front (fileTable f) (bufferTable f marks out report) h
-
   entries : length (scheduleOf f) ≡ left f / 2
   unfolding scheduleOf
   entries = length-pairs (drop (scheduleAt f) f) ∙ ap (λ n. n / 2) (length-drop (scheduleAt f) f)
 
-  clear : fileCode f ≡ 0 → Clear (fileTable f)
-  unfolding fileTable
-  clear h = none-applies (fileTable f) (omega arith) h
-
-  -- Then the tests of the buffers' lengths.
-  pub buffers-next : fileCode f ≡ 0
+  pub buffer-tests : fileCode f ≡ 0
       → codeOf f marks out report ≡ cond (ltb marks (left f / 2)) 9 (cond (ltb out (total (popSizes f))) 10 (cond (ltb report reportBytes) 11 0))
-  unfolding codeOf table bufferTable
-  buffers-next h = first-append (fileTable f) (bufferTable f marks out report) (clear h) ∙ rw entries
+  unfolding bufferTable
+  buffer-tests h = buffers-next f marks out report h ∙ rw entries

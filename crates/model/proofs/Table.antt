@@ -5,7 +5,7 @@ use mathlib.Core.Bool.{Bool, true, false, cond}
 use mathlib.Core.List.{List, [], _∷_, _++_}
 use Prim.Native.Nat.{ℕ, _≤_, _<_}
 use native.Mathlib.Omega.{arith}
-use Rattle.order.proofs.Trace.{clash}
+use Rattle.order.proofs.Trace.{clash, cond-elim}
 use Rattle.model.specs.Codes.{Row, firstOf}
 
 -- No row has code 0.
@@ -59,3 +59,22 @@ clear-parts (x ∷ xs) ys h = let z = clear-parts xs ys (h .1) in ((h .0, z .0),
 pub first-append : (xs ys : List Row) → Clear xs → firstOf (xs ++ ys) ≡ firstOf ys
 first-append [] ys h = refl
 first-append (x ∷ xs) ys h = rw (h .0) (first-append xs ys (h .1))
+
+-- Where one of the first rows applies, the code is theirs.
+pub first-front : (xs ys : List Row) → ¬ (firstOf xs ≡ 0) → firstOf xs ≡ firstOf (xs ++ ys)
+first-front [] ys h = absurd (h refl)
+first-front (x ∷ xs) ys h = go (x .applies) (first-front xs ys) h
+  where
+    go : (b : Bool) → (¬ (firstOf xs ≡ 0) → firstOf xs ≡ firstOf (xs ++ ys)) → ¬ (cond b (x .code) (firstOf xs) ≡ 0)
+        → cond b (x .code) (firstOf xs) ≡ cond b (x .code) (firstOf (xs ++ ys))
+    go true ih k = refl
+    go false ih k = ih k
+
+-- No row has a code above n.
+abbrev pub AtMost : ℕ → List Row → Type 0
+AtMost n [] = Unit {0}
+AtMost n (x ∷ xs) = (x .code ≤ n) × AtMost n xs
+
+pub first-most : (n : ℕ) (xs : List Row) → AtMost n xs → firstOf xs ≤ n
+first-most n [] h = omega arith
+first-most n (x ∷ xs) h = cond-elim (λ (k : ℕ). k ≤ n) (x .applies) (x .code) (firstOf xs) (λ _. h .0) (λ _. first-most n xs (h .1))

@@ -15,6 +15,7 @@ pub mod Course
 pub mod Written
 pub mod Bytes
 pub mod Weak
+pub mod RaceOnly
 pub mod Seat
 pub mod Seated
 pub mod SeatedRun

@@ -7,6 +7,7 @@ pub mod Same
 pub mod Written
 pub mod Weak
 pub mod Shortfall
+pub mod RaceOnly
 pub mod Pair
 pub mod Alone
 pub mod WeakPair
