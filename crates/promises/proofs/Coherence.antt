@@ -10,15 +10,18 @@ use Rattle.order.specs.Reads.{OutOfReach, hidden, passed}
 use Rattle.order.proofs.Trace.{StoreOf}
 use Rattle.order.proofs.Chain.{Formed}
 use Rattle.order.proofs.Coherence.{passed-is-hidden}
-use Rattle.model.specs.File.{Entry, scheduleOf, partOf}
+use Rattle.model.specs.File.{Entry, Part, partOf}
 use Rattle.model.specs.Queue.{Named, nobody, named, Shape, Queue}
 use Rattle.model.specs.Plan.{Plan, refuse, perform, unless-hidden, unless-race, plan}
-use Rattle.model.specs.Run.{Result, DoesUnder, State, namesOne, EnteredUnder, StepUnder, RunsUnder, stop, move, shapeOf}
+use Rattle.model.specs.Run.{Result, DoesUnder, State, EnteredUnder, StepUnder, RunsUnder, stop, move, machineOf, freshOf, namesOne}
+use Rattle.model.specs.PairFile.{partsOf, namesPair}
 use Rattle.model.proofs.Formed.{PlanFits, plan-fits, step-fits}
 use Rattle.model.proofs.One.{run-one}
-use Rattle.promises.specs.Coherence.{CoherenceChangesNothing, CoherenceChangesNoCall}
+use Rattle.promises.specs.Coherence.{CoherenceChangesNothing, CoherenceChangesNoPair, CoherenceChangesNoCall, CoherenceChangesNoPairCall}
+use Rattle.promises.specs.Strong.{allStrong}
 use Rattle.promises.proofs.Log.{Strong}
 use Rattle.promises.proofs.Strong.{strong-orders}
+use Rattle.promises.proofs.Pair.{pair-strong}
 
 module _ (g : Shape) (st : (r : Ring) → Strong g r) where
   -- A store of the foreign index that is out of reach is hidden.
@@ -63,17 +66,33 @@ module _ (g : Shape) (st : (r : Ring) → Strong g r) where
       let b = step-same s e x f .1 a in
       move b (with-too (step-fits g s e x b, f) p)
 
+-- Of any rings whose orders are all strong.
+module _ (p : Ring → Part) (names : ℕ → Named) (strong : (r : Ring) → p r .bits ≡ allStrong) where
+  changes-nothing : (es : List Entry) (xs : List Result) (z : State)
+      → RunsUnder OutOfReach (machineOf p names) (freshOf p) es xs z ↔ RunsUnder Hidden (machineOf p names) (freshOf p) es xs z
+  changes-nothing es xs z =
+      let st : (r : Ring) → Strong (machineOf p names) r = λ r. strong-orders p names r (strong r) in
+      (without (machineOf p names) st tt, with-too (machineOf p names) st tt)
+
+  -- The one run that axiom 2 alone allows is the machine's own.
+  own-run : {es : List Entry} {ys : List Result} {y : State} → RunsUnder OutOfReach (machineOf p names) (freshOf p) es ys y
+      → (xs : List Result) (z : State) → RunsUnder Hidden (machineOf p names) (freshOf p) es xs z ↔ ((xs ≡ ys) × (z ≡ y))
+  own-run {es = es} {ys = ys} {y = y} own xs z = (
+    λ q. run-one (changes-nothing es xs z .1 q) own,
+    λ e. rw (e .0, e .1) (changes-nothing es ys y .0 own),
+  )
+
 -- WITH ALL ORDERS STRONG COHERENCE CHANGES NOTHING: no mark, no byte and no number.
 pub coherence-changes-nothing : CoherenceChangesNothing
-coherence-changes-nothing f strong es xs z =
-    let st : (r : Ring) → Strong (shapeOf f) r = λ r. strong-orders (λ r. partOf f) namesOne r strong in
-    (without (shapeOf f) st tt, with-too (shapeOf f) st tt)
+coherence-changes-nothing f strong = changes-nothing (λ r. partOf f) namesOne (λ r. strong)
+
+pub coherence-changes-no-pair : CoherenceChangesNoPair
+coherence-changes-no-pair f strong₁ strong₂ = changes-nothing (partsOf f) namesPair (pair-strong f strong₁ strong₂)
 
 -- .. and so of a call.
 pub coherence-changes-no-call : CoherenceChangesNoCall
-coherence-changes-no-call f marks out report r marks′ out′ report′ call ran strong xs z =
-    let own = call .lawful ran in
-    let same = coherence-changes-nothing f strong (scheduleOf f) in (
-      λ p. run-one (same xs z .1 p) (own .run),
-      λ e. rw (e .0, e .1) (same (own .results) (own .end) .0 (own .run)),
-    )
+coherence-changes-no-call f marks out report r marks′ out′ report′ call ran strong = own-run (λ r. partOf f) namesOne (λ r. strong) (call .lawful ran .run)
+
+pub coherence-changes-no-pair-call : CoherenceChangesNoPairCall
+coherence-changes-no-pair-call f b r b′ call ran strong₁ strong₂ =
+    own-run (partsOf f) namesPair (pair-strong f strong₁ strong₂) (call .lawful ran .run)

@@ -7,7 +7,9 @@ pub mod Flow
 pub mod Moves
 pub mod Pushed
 pub mod Strong
+pub mod Pair
 pub mod Call
+pub mod PairCall
 pub mod Coherence
 pub mod Same
 pub mod Turn
@@ -24,4 +26,3 @@ pub mod PairWritten
 pub mod Alone
 pub mod WeakPair
 pub mod Shortfall
-pub mod Pair

@@ -28,13 +28,14 @@ pair-fair f lawful r =
       enough = let e = pair-laid f lawful .bytes r in omega arith;
     }
 
+-- Both rings strong.
+pub pair-strong : (f : List ℕ) → orderBits (headerOf firstRing f) ≡ allStrong → orderBits (headerOf secondRing f) ≡ allStrong
+    → (r : Ring) → partsOf f r .bits ≡ allStrong
+pair-strong f strong₁ strong₂ zero = strong₁
+pair-strong f strong₁ strong₂ (suc r) = strong₂
+
 -- THE PROMISE OF EIGHT STRONG ORDERS
 pub strong-pair-keeps : StrongPairKeeps
 strong-pair-keeps f lawful strong₁ strong₂ es xs s run =
-    let c = calm (partsOf f) namesPair (pair-fair f lawful) run all-strong in
     let k = flows (partsOf f) namesPair (pair-fair f lawful) run in
-    record { calm = c; first = k firstRing; second = k secondRing }
-  where
-    all-strong : (r : Ring) → orderBits (headerOf r f) ≡ allStrong
-    all-strong zero = strong₁
-    all-strong (suc r) = strong₂
+    record { calm = calm (partsOf f) namesPair (pair-fair f lawful) run (pair-strong f strong₁ strong₂); first = k firstRing; second = k secondRing }

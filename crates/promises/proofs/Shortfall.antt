@@ -1,60 +1,64 @@
 -- The shortfalls, in numbers that do not wrap.
 use mathlib.Core.Path.{_≡_, refl, sym, ap, _∙_, subst}
 use mathlib.Core.Logic.{inl, inr}
-use mathlib.Core.Bool.{Bool, true, false}
+use mathlib.Core.Bool.{Bool, true, false, cond}
 use mathlib.Core.List.{List, [], _∷_, _++_, append-nil, append-assoc}
 use Prim.Native.Nat.{ℕ, suc, _+_, _-_, _%_, _≤_}
 use native.Mathlib.Omega.{arith}
 use lib.ListN.{length, take, length-append}
 use lib.Dec.{eqb}
 use lib.Seq.{take-append-le, take-all}
-use Rattle.order.specs.Trace.{Core, core0, core1, other, sameCore, Ring, index, Trace, act, storesTo, valueOf}
+use borrow.Author.Tests.{eqb-true, eqb-false}
+use Rattle.order.specs.Trace.{Core, other, sameCore, Ring, index, load, Act, Trace, act, storesTo, valueOf}
 use Rattle.order.specs.Order.{Orders}
 use Rattle.order.proofs.Trace.{clash, and-true, same-true, newest, older, store-at, StoreOf}
-use Rattle.model.specs.File.{Entry, total, orderBits, partOf}
-use Rattle.model.specs.Codes.{Lawful}
+use Rattle.model.specs.File.{Entry, total, Part, partOf}
 use Rattle.model.specs.Queue.{Named, nobody, named, Shape, start, Side, Queue, withQueue, lead, shortfall}
 use Rattle.model.specs.Plan.{Plan}
 use Rattle.model.specs.Marks.{batchFailed}
-use Rattle.model.specs.Run.{Result, Does, State, after, firstRing, namesOne, Entered, Step, Runs, stop, move, shapeOf, fresh}
+use Rattle.model.specs.Run.{Result, Does, State, after, firstRing, namesOne, Entered, Step, Runs, stop, move, machineOf, freshOf}
 use Rattle.model.specs.Report.{markedOf, missed}
+use Rattle.model.specs.PairFile.{secondRing, partsOf, namesPair}
 use Rattle.model.proofs.Plan.{Planned, no-batch, no-age, past, owning, failing, keeping, storing, loading, completing, planned}
-use Rattle.model.proofs.Rings.{ringOf, step-at, run-turns}
-use Rattle.model.proofs.OneRing.{one-ring, of-one-ring}
+use Rattle.model.proofs.Rings.{ActIn, ringOf, step-at, stores-not, with-here, run-turns}
 use Rattle.model.proofs.Sides.{with-same}
-use Rattle.model.proofs.Report.{pushed-bytes, popped-bytes}
+use Rattle.model.proofs.Report.{completed-bytes}
 use Rattle.model.proofs.Shortfall.{Lost, step-lost, lost-by, lost-some, none-lost}
 use Rattle.promises.specs.Strong.{allStrong}
-use Rattle.promises.specs.Shortfall.{FailsBy, ShortfallFits, NoneFailed, doneBy, StrongShortfall}
+use Rattle.promises.specs.Shortfall.{FailsBy, ShortfallFits, NoneFailed, doneBy, TellsMissing, StrongShortfall, StrongPairShortfall}
 use Rattle.promises.proofs.Count.{upTo, upTo-old, upTo-all, upTo-zero}
 use Rattle.promises.proofs.Log.{store-value, store-le}
 use Rattle.promises.proofs.Half.{progress, room-of, forward}
 use Rattle.promises.proofs.Moves.{Invariant}
-use Rattle.promises.proofs.Strong.{fair-sizes, holds as live, calm, lawful-fair}
+use Rattle.promises.proofs.Strong.{Fair, fair-sizes, holds as live, calm, lawful-fair}
+use Rattle.promises.proofs.Pair.{pair-fair, pair-strong}
 
--- Where a batch failed, of the one ring.
-lost-here : (f : List ℕ) (s : State) (e : Entry) (x : Result) → Step (shapeOf f) s e x → (c : Core) → markedOf c batchFailed x ≡ true
-    → Lost (shapeOf f) firstRing c (s .queue firstRing) (s .trace) x
-lost-here f s e x d c m =
-    subst (λ (r : Ring). Lost (shapeOf f) r c (s .queue r) (s .trace) x) (one-ring (e .core)) (step-lost (shapeOf f) s e x d c m)
+-- Where a batch failed: the entry is of the ring whose index was read.
+lost-here : (g : Shape) (s : State) (e : Entry) (x : Result) → Step g s e x → (r : Ring) (c : Core) (n d k : ℕ) → FailsBy g r (s .queue r) x c n d k
+    → Lost g r c (s .queue r) (s .trace) x
+lost-here g s e x d r c n m k h =
+    let z = step-lost g s e x d c (h .failed) in
+    let w : load c (index (ringOf (g .names (e .core))) (other c)) (z .from) ≡ load c (index r (other c)) k = sym (z .did-is) ∙ h .read in
+    let same : ringOf (g .names (e .core)) ≡ r = cc in
+    subst (λ (p : Ring). Lost g p c (s .queue p) (s .trace) x) same z
 
 -- The size that a failed batch is said to have is its size.
-same-size : {g : Shape} {q : Queue} {t : Trace} {x : Result} {c : Core} {n d k : ℕ} → FailsBy g q x c n d k → (l : Lost g firstRing c q t x)
-    → (n ≡ l .size) × (d ≡ missed g firstRing c (q .side c .batches) (x .queue .side c)) × (k ≡ l .from)
+same-size : {g : Shape} {r : Ring} {q : Queue} {t : Trace} {x : Result} {c : Core} {n d k : ℕ} → FailsBy g r q x c n d k → (l : Lost g r c q t x)
+    → (n ≡ l .size) × (d ≡ missed g r c (q .side c .batches) (x .queue .side c)) × (k ≡ l .from)
 same-size h l =
     let e = sym (h .batch-is) ∙ l .had in
     let w = sym (h .read) ∙ l .did-is in
     (cc, rw (h .batch-is) (h .by), cc)
 
 pub shortfall-fits : ShortfallFits
-shortfall-fits f es xs s run e x d c n m k h =
-    let l = lost-here f s e x d c (h .failed) in
+shortfall-fits g s e x d r c n m k h =
+    let l = lost-here g s e x d r c n m k h in
     let z = same-size h l in
     let b = lost-some l in
     (omega arith, omega arith)
 
 pub none-failed : NoneFailed
-none-failed f es xs s run c = none-lost c (rw (of-one-ring f run) at (run-turns firstRing run))
+none-failed p names es xs s run r c = none-lost c (run-turns r run)
 
 -- Runs by their last entry
 
@@ -100,86 +104,106 @@ step-finish g s age nobody h x d b m = clash (cc (rw d at m))
 step-finish g s age (named r c) true x d b m = clash (cc (rw d at m))
 step-finish g s age (named r c) false x d b m = does-finish (g .orders) (planned g r c (s .queue r) (s .trace) age) x d b m
 
-done-bytes : (f : List ℕ) (c : Core) {z : State} {es : List Entry} {xs : List Result} → Runs (shapeOf f) (fresh f) es xs z
-    → length (z .queue firstRing .side c .completed) ≡ doneBy f c xs
-done-bytes f core0 p = pushed-bytes f p
-done-bytes f core1 p = popped-bytes f p
+-- With strong orders, at ring r of some rings
+module _ (p : Ring → Part) (names : ℕ → Named) (fair : (r : Ring) → Fair (p r)) (strong : (r : Ring) → p r .bits ≡ allStrong) (r : Ring) where
+  abbrev g : Shape
+  g = machineOf p names
 
-none-done : (f : List ℕ) (c : Core) → 0 ≡ doneBy f c []
-unfolding total
-none-done f core0 = refl
-none-done f core1 = refl
+  done-bytes : (c : Core) {z : State} {es : List Entry} {xs : List Result} → Runs g (freshOf p) es xs z
+      → length (z .queue r .side c .completed) ≡ doneBy r (p r) c xs
+  done-bytes c run = completed-bytes p names r c run
 
--- With strong orders
-module _ (f : List ℕ) (lawful : Lawful f) (strong : orderBits f ≡ allStrong) where
+  none-done : (c : Core) → 0 ≡ doneBy r (p r) c []
+  unfolding total
+  none-done c = refl
+
   -- The invariant holds after every run.
-  holds : {es : List Entry} {xs : List Result} {z : State} → Runs (shapeOf f) (fresh f) es xs z → Invariant (shapeOf f) firstRing (z .trace) (z .queue firstRing)
-  holds run =
-      let fair = lawful-fair f lawful in
-      live (λ r. partOf f) namesOne (λ r. fair) run (calm (λ r. partOf f) namesOne (λ r. fair) run (λ r. strong) .running) firstRing
+  holds : {es : List Entry} {xs : List Result} {z : State} → Runs g (freshOf p) es xs z → Invariant g r (z .trace) (z .queue r)
+  holds run = live p names fair run (calm p names fair run strong .running) r
 
   -- At a store of its index a core has made the accesses of the batches that it has completed, and no others.
   abbrev AtStores : List Result → State → Type 0
   AtStores xs s = (length (s .trace) ≡ length xs)
-      × ((c : Core) (k : ℕ) → storesTo (index firstRing c) (act (s .trace) k) ≡ true → upTo (s .trace) c firstRing k ≡ doneBy f c (take k xs))
+      × ((c : Core) (k : ℕ) → storesTo (index r c) (act (s .trace) k) ≡ true → upTo (s .trace) c r k ≡ doneBy r (p r) c (take k xs))
 
-  one-more : (es : List Entry) (xs : List Result) (s : State) (e : Entry) (x : Result) → Runs (shapeOf f) (fresh f) es xs s → Step (shapeOf f) s e x
+  one-more : (es : List Entry) (xs : List Result) (s : State) (e : Entry) (x : Result) → Runs g (freshOf p) es xs s → Step g s e x
       → AtStores xs s → AtStores (xs ++ (x ∷ [])) (after s x)
   one-more es xs s e x run d q =
       let long : length (xs ++ (x ∷ [])) ≡ suc (length xs) = length-append xs (x ∷ []) ∙ omega arith in
-      let r = run-more run e x d in (
+      let more = run-more run e x d in (
         omega (arith, q .0),
-        λ c k h. elim (store-at (x .did) (s .trace) (index firstRing c) k h) [
+        λ c k h. elim (store-at (x .did) (s .trace) (index r c) k h) [
           | newest y z ↦
-              let ring : ringOf (namesOne (e .core)) ≡ firstRing = one-ring (e .core) in
-              let here : after s x .queue firstRing ≡ x .queue = ap (λ (b : Ring). withQueue (s .queue) b (x .queue) firstRing) (step-at (shapeOf f) s e x d .0 ∙ ring) in
-              let ph = step-finish (shapeOf f) s (e .age) (namesOne (e .core)) (s .halted) x d c (rw (z, ← ring) at h) in
-              let n = holds r .half c .counted in
-              let p0 : progress (after s x .queue firstRing .side c .phase) ≡ 0 = ap (λ (q : Queue). progress (q .side c .phase)) here ∙ ap progress ph in
+              let stored : storesTo (index r c) (x .did) ≡ true = rw z at h in
+              let ring = of-ring c stored in
+              let here : after s x .queue r ≡ x .queue = ap (λ (b : Ring). withQueue (s .queue) b (x .queue) r) (step-at g s e x d .0 ∙ ring) ∙ with-here (s .queue) r (x .queue) in
+              let ph = step-finish g s (e .age) (names (e .core)) (s .halted) x d c (rw (← ring) at stored) in
+              let n = holds more .half c .counted in
+              let p0 : progress (after s x .queue r .side c .phase) ≡ 0 = ap (λ (q : Queue). progress (q .side c .phase)) here ∙ ap progress ph in
               let whole : take k (xs ++ (x ∷ [])) ≡ xs ++ (x ∷ []) = take-all k (xs ++ (x ∷ [])) (omega (arith, q .0)) in
-              upTo-all (x .did ∷ s .trace) c firstRing k (omega arith) ∙ omega (arith, done-bytes f c r) ∙ ap (doneBy f c) (sym whole)
+              upTo-all (x .did ∷ s .trace) c r k (omega arith) ∙ omega (arith, done-bytes c more) ∙ ap (doneBy r (p r) c) (sym whole)
           | older y z ↦
-              upTo-old (x .did) (s .trace) c firstRing k y ∙ q .1 c k (rw z at h) ∙ ap (doneBy f c) (sym (take-append-le k xs (x ∷ []) (omega (arith, q .0))))
+              upTo-old (x .did) (s .trace) c r k y ∙ q .1 c k (rw z at h) ∙ ap (doneBy r (p r) c) (sym (take-append-le k xs (x ∷ []) (omega (arith, q .0))))
         ],
       )
+    where
+      -- An entry that stores an index of ring r is of ring r.
+      of-ring : (c : Core) → storesTo (index r c) (x .did) ≡ true → ringOf (names (e .core)) ≡ r
+      of-ring c h = go (eqb (ringOf (names (e .core))) r) refl
+        where
+          go : (b : Bool) → eqb (ringOf (names (e .core))) r ≡ b → ringOf (names (e .core)) ≡ r
+          go true k = eqb-true (ringOf (names (e .core))) r k
+          go false k =
+              let n = stores-not (ringOf (names (e .core))) r (index r c) (x .did) (step-at g s e x d .1) refl (eqb-false (ringOf (names (e .core))) r k) in
+              clash (cc)
 
-  at-stores : {es : List Entry} {xs : List Result} {z : State} → Runs (shapeOf f) (fresh f) es xs z → AtStores xs z
-  at-stores run = by-last (fresh f) AtStores one-more (refl, λ c k h. clash (cc)) run
+  at-stores : {es : List Entry} {xs : List Result} {z : State} → Runs g (freshOf p) es xs z → AtStores xs z
+  at-stores run = by-last (freshOf p) AtStores one-more (refl, λ c k h. clash (cc)) run
 
   -- The numbers at the entry where the batch failed.
-  lost-numbers : {es : List Entry} {xs : List Result} {s : State} {x : Result} (c : Core) → Runs (shapeOf f) (fresh f) es xs s
-      → (l : Lost (shapeOf f) firstRing c (s .queue firstRing) (s .trace) x) → (d : ℕ)
-      → d ≡ shortfall (shapeOf f) firstRing c (l .size) (s .queue firstRing .side c .own) (valueOf (s .trace) (l .from)) → 1 ≤ d
-      → doneBy f c xs + l .size ≡ upTo (s .trace) (other c) firstRing (l .from) + lead (shapeOf f) firstRing c + d
+  lost-numbers : {es : List Entry} {xs : List Result} {s : State} {x : Result} (c : Core) → Runs g (freshOf p) es xs s
+      → (l : Lost g r c (s .queue r) (s .trace) x) → (d : ℕ)
+      → d ≡ shortfall g r c (l .size) (s .queue r .side c .own) (valueOf (s .trace) (l .from)) → 1 ≤ d
+      → doneBy r (p r) c xs + l .size ≡ upTo (s .trace) (other c) r (l .from) + lead g r c + d
   lost-numbers {xs = xs} {s = s} c run l d e pos =
-      let z = fair-sizes (λ r. partOf f) namesOne (λ r. lawful-fair f lawful) firstRing in
+      let z = fair-sizes p names fair r in
       let t = s .trace in
-      let me = s .queue firstRing .side c in
-      let you = s .queue firstRing .side (other c) in
+      let me = s .queue r .side c in
+      let you = s .queue r .side (other c) in
       let I = holds run in
       let mine = I .half c in
       let yours = I .half (other c) in
-      let k : ℕ = upTo t (other c) firstRing (l .from) in
-      let own : me .own ≡ length (me .completed) % shapeOf f .modulus firstRing = rw (l .waiting) at (mine .own-is) in
-      let value = store-value (shapeOf f) t (other c) firstRing (length (you .completed)) (yours .log) (l .from) (l .is-store) in
-      let le = store-le (shapeOf f) t (other c) firstRing (length (you .completed)) (yours .log) (l .from) (l .is-store) in
-      let far = forward (shapeOf f) firstRing z t c me you mine yours (l .from) (l .in-reach) in
-      let room = room-of (shapeOf f) firstRing z t c me you mine yours (me .own) (valueOf t (l .from)) k own value le far in
-      let done = done-bytes f c run in
-      let by : d ≡ l .size - ((k + lead (shapeOf f) firstRing c) - length (me .completed)) = e ∙ ap (λ (w : ℕ). l .size - w) room in
+      let k : ℕ = upTo t (other c) r (l .from) in
+      let own : me .own ≡ length (me .completed) % g .modulus r = rw (l .waiting) at (mine .own-is) in
+      let value = store-value g t (other c) r (length (you .completed)) (yours .log) (l .from) (l .is-store) in
+      let le = store-le g t (other c) r (length (you .completed)) (yours .log) (l .from) (l .is-store) in
+      let far = forward g r z t c me you mine yours (l .from) (l .in-reach) in
+      let room = room-of g r z t c me you mine yours (me .own) (valueOf t (l .from)) k own value le far in
+      let done = done-bytes c run in
+      let by : d ≡ l .size - ((k + lead g r c) - length (me .completed)) = e ∙ ap (λ (w : ℕ). l .size - w) room in
       omega arith
 
+  -- WHAT A FAILED BATCH WAS SHORT OF, at any ring.
+  tells-missing : {es : List Entry} {xs : List Result} {s : State} → Runs g (freshOf p) es xs s → TellsMissing p names r xs s
+  tells-missing {xs = xs} {s = s} run e x d c n m k h =
+      let l = lost-here g s e x d r c n m k h in
+      let z = same-size h l in
+      let b = lost-some l in
+      let w = lost-numbers c run l m (z .1 ∙ lost-by l) (omega arith) in
+      let at = at-stores run in
+      let seen : upTo (s .trace) (other c) r (l .from) ≡ doneBy r (p r) (other c) (take k xs) = read (l .from) (l .is-store) k (z .2) at in
+      omega arith
+    where
+      read : (i : ℕ) → StoreOf (s .trace) (index r (other c)) i → (j : ℕ) → j ≡ i → AtStores xs s
+          → upTo (s .trace) (other c) r i ≡ doneBy r (p r) (other c) (take j xs)
+      read i (inl e) j q at = rw (q, e) (upTo-zero (s .trace) (other c) r ∙ none-done (other c))
+      read i (inr e) j q at = rw q (at .1 (other c) i e)
+
 pub strong-shortfall : StrongShortfall
-strong-shortfall f lawful strong es xs s run e x d c n m k h =
-    let l = lost-here f s e x d c (h .failed) in
-    let z = same-size h l in
-    let b = lost-some l in
-    let w = lost-numbers f lawful strong c run l m (z .1 ∙ lost-by l) (omega arith) in
-    let at = at-stores f lawful strong run in
-    let seen : upTo (s .trace) (other c) firstRing (l .from) ≡ doneBy f (other c) (take k xs) = read (l .from) (l .is-store) k (z .2) at in
-    omega arith
-  where
-    read : (i : ℕ) → StoreOf (s .trace) (index firstRing (other c)) i → (j : ℕ) → j ≡ i → AtStores f lawful strong xs s
-        → upTo (s .trace) (other c) firstRing i ≡ doneBy f (other c) (take j xs)
-    read i (inl e) j q at = rw (q, e) (upTo-zero (s .trace) (other c) firstRing ∙ none-done f (other c))
-    read i (inr e) j q at = rw q (at .1 (other c) i e)
+strong-shortfall f lawful strong es xs s run = tells-missing (λ r. partOf f) namesOne (λ r. lawful-fair f lawful) (λ r. strong) firstRing run
+
+pub strong-pair-shortfall : StrongPairShortfall
+strong-pair-shortfall f lawful strong₁ strong₂ es xs s run =
+    let fair = pair-fair f lawful in
+    let strong = pair-strong f strong₁ strong₂ in
+    (tells-missing (partsOf f) namesPair fair strong firstRing run, tells-missing (partsOf f) namesPair fair strong secondRing run)

@@ -1,7 +1,9 @@
 -- The crate's definitions, file by file.
 pub mod Batches
 pub mod Strong
+pub mod Pair
 pub mod Call
+pub mod PairCall
 pub mod Coherence
 pub mod Same
 pub mod Written

@@ -1,6 +1,7 @@
--- What all eight orders strong guarantee of a file of two rings, after each entry of a run; and what holds of each ring whatever the orders.
+-- What all eight orders strong guarantee of a pair, after each entry of a run.
 use mathlib.Core.Path.{_≡_}
 use mathlib.Core.List.{List}
+use Prim.Native.Nat.{ℕ}
 use Rattle.order.specs.Trace.{Ring}
 use Rattle.model.specs.File.{Entry, orderBits}
 use Rattle.model.specs.Run.{Result, State, firstRing, Runs}
@@ -8,18 +9,18 @@ use Rattle.model.specs.Report.{ofRing}
 use Rattle.model.specs.PairFile.{secondRing, headerOf, partsOf, pairShape, pairFresh}
 use Rattle.model.specs.PairCodes.{LawfulPair}
 use Rattle.promises.specs.Strong.{allStrong, Calm, Flows}
-use Prim.Native.Nat.{ℕ}
 
 -- Ring r of file f, with those of the results xs that count for it.
-abbrev pub RingKept : List ℕ → Ring → List Result → State → Type 0
-RingKept f r xs s = Flows r (partsOf f r) (ofRing r xs) s
+abbrev pub RingFlows : List ℕ → Ring → List Result → State → Type 0
+RingFlows f r xs s = Flows r (partsOf f r) (ofRing r xs) s
 
+-- Nothing races, in either ring; and each ring keeps its bytes.
 pub record PairKept (f : List ℕ) (xs : List Result) (s : State) : Type 0 where
   pub calm : Calm (pairShape f .orders) xs s
-  pub first : RingKept f firstRing xs s
-  pub second : RingKept f secondRing xs s
+  pub first : RingFlows f firstRing xs s
+  pub second : RingFlows f secondRing xs s
 
--- THE PROMISE: for every lawful file of two rings whose eight orders are all strong, and every run over entries es that the definition allows.
+-- THE PROMISE: for every lawful pair's file whose eight orders are all strong, and every run over entries es that the definition allows.
 abbrev pub StrongPairKeeps : Type 0
 StrongPairKeeps = (f : List ℕ) → LawfulPair f → orderBits (headerOf firstRing f) ≡ allStrong → orderBits (headerOf secondRing f) ≡ allStrong
     → (es : List Entry) (xs : List Result) (s : State) → Runs (pairShape f) (pairFresh f) es xs s → PairKept f xs s
