@@ -12,7 +12,7 @@ use Rattle.order.proofs.Record.{AccessOf}
 use Rattle.model.specs.File.{Entry}
 use Rattle.model.specs.Queue.{Named, nobody, named, Shape, Queue}
 use Rattle.model.specs.Plan.{Plan, refuse, perform, unless-hidden, unless-race, slotOf, plan}
-use Rattle.model.specs.Run.{Result, Does, State, firstRing, Entered, Step, Runs, stop, move}
+use Rattle.model.specs.Run.{Result, Does, State, Entered, Step, Runs, stop, move}
 use Rattle.model.proofs.Plan.{Planned, no-batch, no-age, past, owning, failing, keeping, storing, loading, completing, planned}
 
 -- What a plan's action is, as far as the memory rules ask.

@@ -12,7 +12,7 @@ use Rattle.order.specs.Race.{Race}
 use Rattle.model.specs.File.{Entry}
 use Rattle.model.specs.Queue.{Named, nobody, named, Shape, Queue}
 use Rattle.model.specs.Plan.{Plan, refuse, perform, unless-hidden, unless-race, plan}
-use Rattle.model.specs.Run.{Result, Does, State, firstRing, Entered, Step, Runs, stop, move}
+use Rattle.model.specs.Run.{Result, Does, State, Entered, Step, Runs, stop, move}
 use Rattle.model.specs.Outcome.{Ran, Outcome}
 
 -- The latest partner is one.

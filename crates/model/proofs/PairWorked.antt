@@ -1,18 +1,17 @@
 -- The runs of a pair: computed once for the whole table, and so of every outcome that the definition allows.
 use mathlib.Core.Path.{_≡_, refl, sym, ap, _∙_}
-use mathlib.Core.List.{List, [], _∷_, _++_, map}
+use mathlib.Core.List.{List, [], _∷_, map}
 use Prim.Native.Nat.{ℕ}
 use native.Mathlib.Omega.{arith}
-use lib.ListN.{length, drop, length-map}
-use Rattle.model.specs.Limits.{reportBytes}
+use lib.ListN.{length, length-map}
 use Rattle.model.specs.File.{total}
 use Rattle.model.specs.Codes.{firstOf}
 use Rattle.model.specs.Run.{Result, State, firstRing}
-use Rattle.model.specs.Report.{reportOf, bytesOf}
+use Rattle.model.specs.Report.{reportOf}
 use Rattle.model.specs.Outcome.{marksOf}
 use Rattle.model.specs.PairFile.{secondRing, pushSizesOf, popSizesOf, pushBytesOf, pairScheduleAt, pairScheduleOf, pairShape, pairFresh}
 use Rattle.model.specs.PairCodes.{pairFileTable, LawfulPair}
-use Rattle.model.specs.PairOutcome.{Lent, pairNumbersOf, PairOutcome}
+use Rattle.model.specs.PairOutcome.{pairNumbersOf}
 use Rattle.model.specs.PairWorked.{PairWorked, pairs-worked, written, PairComes, AllPairsCome}
 use Rattle.model.specs.computed.Machine.{results, ends}
 use Rattle.model.proofs.PairRanges.{PairRoom, lawful-pair-code}

@@ -104,7 +104,8 @@ loads-in r (load c (index q b) s) h d k p n e = let z : q ≡ p = cc in sym z �
 loads-in r (load c (slot q y) s) h d k p n e = clash (cc)
 loads-in r (store c x v) h d k p s e = clash (cc)
 
-run-in : (f : List ℕ) {s z : State} {es : List Entry} {xs : List Result} → AllIn firstRing (s .trace) → Runs (shapeOf f) s es xs z → AllIn firstRing (z .trace)
+-- Every load of an index, in a run of one ring, is of that ring.
+pub run-in : (f : List ℕ) {s z : State} {es : List Entry} {xs : List Result} → AllIn firstRing (s .trace) → Runs (shapeOf f) s es xs z → AllIn firstRing (z .trace)
 run-in f h stop = h
 run-in f h (move {s = s} {e = e} {x = x} a p) =
     let k = step-at (shapeOf f) s e x a in

@@ -16,7 +16,7 @@ use Rattle.model.specs.File.{Entry}
 use Rattle.model.specs.Marks.{raceFound, noSuchCore}
 use Rattle.model.specs.Queue.{Named, nobody, named, Shape, Queue}
 use Rattle.model.specs.Plan.{Plan, refuse, perform, unless-hidden, unless-race, plan}
-use Rattle.model.specs.Run.{Result, refused, Does, State, after, firstRing, Entered, Step}
+use Rattle.model.specs.Run.{Result, Does, State, after, Entered, Step}
 use Rattle.model.proofs.Rings.{with-either, ringOf}
 use Rattle.model.proofs.Plan.{Planned, no-batch, no-age, past, owning, failing, keeping, storing, loading, completing, planned}
 

@@ -3,7 +3,7 @@
 use mathlib.Core.Path.{_≡_, refl, sym, ap, _∙_}
 use mathlib.Core.Logic.{inl, inr}
 use mathlib.Core.Bool.{Bool, true, false, cond, not}
-use mathlib.Core.Option.{Option, none, some}
+use mathlib.Core.Option.{some}
 use mathlib.Core.List.{List, [], _∷_, _++_}
 use Prim.Native.Nat.{ℕ, suc, _+_, _≤_, _<_}
 use native.Mathlib.Omega.{arith}
@@ -20,7 +20,7 @@ use Rattle.model.specs.Run.{Result, Does, State, firstRing, namesOne, Ru
 use Rattle.model.specs.Report.{one, count, marked, entryPerformed, entryRefused, markedOf, completedOf, ofRing}
 use Rattle.model.proofs.Rings.{Turn, stranger, halted, does, Turns, none-left, turn, run-turns}
 use Rattle.model.proofs.OneRing.{of-one-ring}
-use Rattle.model.proofs.Plan.{Planned, no-batch, no-age, past, owning, failing, keeping, storing, loading, completing, planned}
+use Rattle.model.proofs.Plan.{Planned, no-batch, no-age, past, owning, failing, keeping, storing, loading, completing}
 
 -- PERFORMED AND REFUSED are together every entry.
 pub performed-and-refused : (xs : List Result) → count entryPerformed xs + count entryRefused xs ≡ length xs

@@ -1,19 +1,19 @@
 -- An entry is of one ring: what it does is done there, and the other rings' queues stay.
-use mathlib.Core.Path.{_≡_, refl, sym, ap, _∙_, subst}
+use mathlib.Core.Path.{_≡_, refl, sym, subst}
 use mathlib.Core.Logic.{inl, inr}
 use mathlib.Core.Bool.{Bool, true, false, cond}
 use mathlib.Core.List.{List, [], _∷_}
 use Prim.Native.Nat.{ℕ}
 use lib.Dec.{eqb}
 use borrow.Author.Tests.{eqb-true, eqb-false, eq-eqb, ne-eqb}
-use Rattle.order.specs.Trace.{Core, Ring, Place, index, slot, samePlace, Act, idle, load, store, Trace, storesTo}
+use Rattle.order.specs.Trace.{Core, Ring, Place, index, slot, Act, idle, load, store, Trace, storesTo}
 use Rattle.order.specs.Order.{Orders}
 use Rattle.order.proofs.Trace.{cond-elim}
 use Rattle.model.specs.File.{Entry}
 use Rattle.model.specs.Marks.{noSuchCore, isHalted}
 use Rattle.model.specs.Queue.{Named, nobody, named, Shape, Queue, withQueue}
 use Rattle.model.specs.Plan.{Plan, refuse, perform, unless-hidden, unless-race, plan}
-use Rattle.model.specs.Run.{Result, refused, Does, State, after, Entered, Step, Runs, stop, move}
+use Rattle.model.specs.Run.{Result, refused, Does, State, Entered, Step, Runs, stop, move}
 use Rattle.model.specs.Report.{ofRing}
 use Rattle.model.proofs.Plan.{Planned, no-batch, no-age, past, owning, failing, keeping, storing, loading, completing, planned}
 

@@ -8,12 +8,12 @@ use Rattle.order.specs.Trace.{core0, core1, Ring}
 use Rattle.model.specs.Limits.{reportBytes}
 use Rattle.model.specs.File.{total, Entry, scheduleOf, Part, partOf}
 use Rattle.model.specs.Queue.{Queue}
-use Rattle.model.specs.Run.{Result, State, firstRing, Runs, machineOf, freshOf, namesOne, shapeOf, fresh}
+use Rattle.model.specs.Run.{State, firstRing, Runs, machineOf, freshOf, namesOne, shapeOf, fresh}
 use Rattle.model.specs.Report.{reportOf, numbersOf, bytesOf}
 use Rattle.model.specs.Outcome.{marksOf}
 use Rattle.model.specs.PairFile.{pushSizesOf, popSizesOf, pushBytesOf, pairScheduleAt, pairScheduleOf, partsOf, namesPair, pairShape, pairFresh}
 use Rattle.model.specs.PairCodes.{LawfulPair}
-use Rattle.model.specs.PairOutcome.{Lent, pairNumbersOf, PairRan, PairOutcome}
+use Rattle.model.specs.PairOutcome.{Lent, pairNumbersOf, PairRan}
 use Rattle.model.specs.computed.Machine.{results, ends}
 use Rattle.model.proofs.OneRing.{all-of-one}
 use Rattle.model.proofs.Laid.{lawful-code}

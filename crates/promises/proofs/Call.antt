@@ -22,7 +22,7 @@ use Rattle.model.proofs.Laid.{Ranges, lawful-ranges, code-means}
 use Rattle.model.proofs.OneRing.{of-one-ring}
 use Rattle.model.proofs.Report.{completed-bytes}
 use Rattle.promises.specs.Strong.{NeverRaced, pushed, popped, pushedBytes, poppedBytes, Flows}
-use Rattle.promises.specs.Call.{bytesPushed, bytesPopped, occupancyTold, raceEntry, racePartner, Told, NoRaceTold, StrongCallKeeps}
+use Rattle.promises.specs.Call.{bytesPushed, bytesPopped, occupancyTold, Told, NoRaceTold, StrongCallKeeps}
 use Rattle.promises.proofs.Pushed.{not-same}
 use Rattle.promises.proofs.Strong.{Fair, flows, lawful-fair, strong-keeps}
 

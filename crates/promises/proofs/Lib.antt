@@ -25,4 +25,5 @@ pub mod SeatedReport
 pub mod PairWritten
 pub mod Alone
 pub mod WeakPair
+pub mod Across
 pub mod Shortfall

@@ -1,5 +1,5 @@
 -- The promise of eight strong orders as facts about a call.
-use mathlib.Core.Path.{_≡_, sym, _∙_}
+use mathlib.Core.Path.{sym, _∙_}
 use mathlib.Core.List.{List, _++_}
 use Prim.Native.Nat.{ℕ, zero, suc, _≤_}
 use native.Mathlib.Omega.{arith}
@@ -9,8 +9,8 @@ use Rattle.model.specs.Limits.{reportBytes}
 use Rattle.model.specs.File.{total}
 use Rattle.model.specs.Run.{firstRing}
 use Rattle.model.specs.Report.{bytesOf}
-use Rattle.model.specs.PairFile.{secondRing, pushSizesOf, pairScheduleAt, pairScheduleOf, partsOf, namesPair}
-use Rattle.model.specs.PairOutcome.{Lent, pairNumbersOf, PairOutcome}
+use Rattle.model.specs.PairFile.{secondRing, pushSizesOf, pairScheduleAt, partsOf, namesPair}
+use Rattle.model.specs.PairOutcome.{pairNumbersOf}
 use Rattle.model.proofs.PairRanges.{PairRanges, pair-ranges, pair-code-means}
 use Rattle.promises.specs.PairCall.{RingToldCalm, StrongPairCallKeeps}
 use Rattle.promises.proofs.Strong.{calm}

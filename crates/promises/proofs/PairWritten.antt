@@ -1,10 +1,9 @@
 -- A pair's file that was written down says what it was written from.
 use mathlib.Core.Path.{_≡_, refl, sym, ap, _∙_}
-use mathlib.Core.List.{List, [], _∷_, _++_}
-use Prim.Native.Nat.{ℕ, zero, suc, _+_, _*_, _-_, _%_, _≤_, _<_}
+use mathlib.Core.List.{List, _++_}
+use Prim.Native.Nat.{ℕ, zero, suc, _+_, _*_, _-_, _%_, _≤_}
 use native.Mathlib.Omega.{arith}
 use lib.ListN.{length, take, drop, length-append}
-use Rattle.order.specs.Trace.{Ring}
 use Rattle.model.specs.File.{total, modulusOf, Entry, pairs, flat, Part}
 use Rattle.model.specs.Run.{firstRing}
 use Rattle.model.specs.PairFile.{secondRing, headerOf, sizesAt, pushSizesOf, popSizesOf, pairSizesEnd, bytesAt, pushBytesOf, pairScheduleAt, pairScheduleOf, partsOf}
@@ -12,7 +11,7 @@ use Rattle.model.specs.PairCodes.{LawfulPair}
 use Rattle.model.proofs.Inverse.{four-read}
 use Rattle.model.proofs.Laid.{pairs-flat, length-flat}
 use Rattle.model.proofs.PairRanges.{ranges-lawful-pair}
-use Rattle.promises.specs.Written.{pairFileOf, pairWith}
+use Rattle.promises.specs.Written.{pairFileOf}
 use Rattle.promises.proofs.Written.{Whole, InRange, part-there, part-next}
 
 module _ (p q : Part) (w : Whole p) (v : Whole q) (es : List Entry) where

@@ -1,16 +1,15 @@
 -- The one ring's trace, as ring r of other rings has it: its producer in the seat of ring r's producer, its consumer in that of the consumer, its
 -- places those of ring r. What the record answers does not change.
 use mathlib.Core.Path.{_≡_, refl, sym, ap, _∙_}
-use mathlib.Core.Bool.{Bool, true, false, cond, _&&_, _||_}
-use mathlib.Core.Option.{Option, none, some}
+use mathlib.Core.Bool.{Bool, true, false, cond}
 use mathlib.Core.List.{List, [], _∷_, map}
-use Prim.Native.Nat.{ℕ, suc, max}
-use lib.Dec.{eqb, ltb}
-use lib.ListN.{length, getD, length-map}
+use Prim.Native.Nat.{ℕ, suc}
+use lib.Dec.{eqb}
+use lib.ListN.{getD, length-map}
 use borrow.Author.Tests.{eq-eqb}
-use Rattle.order.specs.Trace.{Core, core0, core1, other, sameCore, Ring, Place, index, slot, samePlace, Act, idle, load, store, Trace, next, act, who, isStore, storesTo, accesses, stores, latest, stored, valueOf}
+use Rattle.order.specs.Trace.{Core, core0, core1, other, sameCore, Ring, Place, index, slot, samePlace, Act, idle, load, store, Trace, next, act, isStore, storesTo, accesses, stores, latest, stored, valueOf}
 use Rattle.order.specs.Order.{Orders}
-use Rattle.order.specs.computed.Record.{syncs, learn, know, newer, reads, seen, outOfReach, rival}
+use Rattle.order.specs.computed.Record.{syncs, learn, know, reads, seen, outOfReach, rival}
 use Rattle.order.proofs.Trace.{other-other, same-self, same-other}
 use Rattle.model.specs.Queue.{pusher, pushes}
 use Rattle.model.specs.Run.{firstRing}

@@ -3,20 +3,17 @@
 use mathlib.Core.Path.{_≡_, refl, sym, ap, _∙_}
 use mathlib.Core.Bool.{Bool, true, false, cond}
 use mathlib.Core.Option.{Option, none, some}
-use mathlib.Core.List.{List, [], _∷_, _++_, map}
+use mathlib.Core.List.{List, [], _∷_, _++_}
 use Prim.Native.Nat.{ℕ, zero, suc, _+_, _%_}
 use lib.Dec.{ltb}
 use lib.ListN.{getD, getElem?, set, drop}
-use Rattle.order.specs.Trace.{Core, core0, core1, other, sameCore, Ring, Place, index, slot, Act, load, store, Trace, isStore, latest, valueOf, stores}
-use Rattle.order.specs.Order.{Orders}
-use Rattle.order.specs.computed.Record.{know, outOfReach, rival}
+use Rattle.order.specs.Trace.{Core, other, sameCore, Ring, index, slot, load, store, Trace, latest, valueOf, stores}
 use Rattle.model.specs.File.{Part}
 use Rattle.model.specs.Queue.{Named, Shape, Phase, start, reload, moving, Side, Queue, withSide, pushes, isShort}
 use Rattle.model.specs.Plan.{Plan, refuse, perform, unless-hidden, unless-race, ageless, turned, ownLoad, passOver, failBatch, keepBatch, foreignLoad, foreignLoadOf, movedOn, dataStore, dataLoad, slotOf, dataAccess, indexStore, inBatch, ofBatches, plan}
-use Rattle.model.specs.Marks.{ownLoaded, foreignLoaded, batchFailed, dataStored, dataLoaded, indexStored, noSuchCore, isHalted, storeHidden}
-use Rattle.model.specs.Run.{Result, State, firstRing, machineOf, freshOf, freshQueue}
-use Rattle.model.proofs.Rings.{PlaceIn, ActIn}
-use Rattle.promises.proofs.Seat.{seat, Here, seat-other, seat-same, seat-twice, seat-pushes, place, moved, movedAll, moved-isStore, moved-value, stores-moved, latest-moved, rival-moved, Agree, know-moved, reach-moved}
+use Rattle.model.specs.Marks.{ownLoaded, foreignLoaded, batchFailed, dataStored, dataLoaded, indexStored}
+use Rattle.model.specs.Run.{firstRing, machineOf}
+use Rattle.promises.proofs.Seat.{seat, Here, seat-other, seat-same, seat-twice, seat-pushes, place, moved, movedAll, moved-value, stores-moved, latest-moved, Agree}
 
 -- Queues and plans, moved.
 module _ (r : Ring) where

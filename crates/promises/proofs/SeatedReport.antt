@@ -1,15 +1,14 @@
 -- The marks and the report of a run of some rings over entries that all name ring r: those of the ring alone.
-use mathlib.Core.Path.{_≡_, refl, sym, ap, _∙_}
-use mathlib.Core.Bool.{Bool, true, false, cond, _&&_}
+use mathlib.Core.Path.{_≡_, refl, ap, _∙_}
+use mathlib.Core.Bool.{Bool, cond, _&&_}
 use mathlib.Core.List.{List, [], _∷_, map}
 use Prim.Native.Nat.{ℕ, suc, _+_, _-_, _%_}
-use lib.Dec.{eqb}
 use borrow.Author.Tests.{eq-eqb}
 use Rattle.order.specs.Trace.{Core, core0, core1, other, Ring, index, Act, idle, load, store, Trace, who, latest, valueOf}
-use Rattle.model.specs.File.{total, Part}
+use Rattle.model.specs.File.{Part}
 use Rattle.model.specs.Marks.{batchFailed, dataLoaded, indexStored, raceFound}
-use Rattle.model.specs.Queue.{Named, Shape, Side, Queue, pusher, shortfall}
-use Rattle.model.specs.Run.{Result, State, firstRing, machineOf, freshQueue, freshOf, namesOne}
+use Rattle.model.specs.Queue.{Named, Shape, Side, Queue, pusher}
+use Rattle.model.specs.Run.{Result, State, firstRing, machineOf, freshQueue, namesOne}
 use Rattle.model.specs.Report.{one, count, marked, entryPerformed, entryRefused, isCore, markedOf, completedOf, ofRing, entryWith, racedAt, raceOf, partnerOf, occupancy, missed, shortfallsOf, largest, largestShortfall, reportOf}
 use Rattle.model.specs.Outcome.{marksOf}
 use Rattle.model.proofs.OneRing.{AllAt, of-all}

@@ -1,10 +1,10 @@
 -- A run of some rings over entries that all name ring r: its results are those of the ring alone, with its cores in the seats of ring r.
-use mathlib.Core.Path.{_≡_, refl, sym, ap, _∙_, subst}
+use mathlib.Core.Path.{_≡_, refl, sym, ap, _∙_}
 use mathlib.Core.Bool.{Bool, true, false, cond, _||_}
 use mathlib.Core.List.{List, [], _∷_, map}
 use Prim.Native.Nat.{ℕ}
 use lib.Dec.{eqb, ltb}
-use Rattle.order.specs.Trace.{Core, other, Ring, Place, index, slot, Act, load, Trace, isStore}
+use Rattle.order.specs.Trace.{Core, Ring, load, Trace, isStore}
 use Rattle.order.specs.computed.Record.{know, outOfReach, rival}
 use Rattle.order.proofs.Chain.{Formed}
 use Rattle.model.specs.File.{Entry, Part}
@@ -17,7 +17,7 @@ use Rattle.model.proofs.Rings.{with-here, ActIn, step-at}
 use Rattle.model.proofs.OneRing.{one-ring}
 use Rattle.model.proofs.Formed.{PlanFits, plan-fits, step-fits}
 use Rattle.model.proofs.Some.{step-allowed}
-use Rattle.promises.proofs.Seat.{seat, Here, seat-same, seat-twice, seat-pushes, place, moved, movedAll, moved-isStore, rival-moved, know-moved, reach-moved}
+use Rattle.promises.proofs.Seat.{seat, Here, seat-twice, seat-pushes, place, moved, movedAll, moved-isStore, rival-moved, know-moved, reach-moved}
 use Rattle.promises.proofs.Seated.{seated, plan-at, agree, plan-is}
 
 -- A result, moved.

@@ -1,7 +1,7 @@
 -- The shortfalls, in numbers that do not wrap.
 use mathlib.Core.Path.{_≡_, refl, sym, ap, _∙_, subst}
 use mathlib.Core.Logic.{inl, inr}
-use mathlib.Core.Bool.{Bool, true, false, cond}
+use mathlib.Core.Bool.{Bool, true, false}
 use mathlib.Core.List.{List, [], _∷_, _++_, append-nil, append-assoc}
 use Prim.Native.Nat.{ℕ, suc, _+_, _-_, _%_, _≤_}
 use native.Mathlib.Omega.{arith}
@@ -9,18 +9,17 @@ use lib.ListN.{length, take, length-append}
 use lib.Dec.{eqb}
 use lib.Seq.{take-append-le, take-all}
 use borrow.Author.Tests.{eqb-true, eqb-false}
-use Rattle.order.specs.Trace.{Core, other, sameCore, Ring, index, load, Act, Trace, act, storesTo, valueOf}
+use Rattle.order.specs.Trace.{Core, other, sameCore, Ring, index, load, Trace, act, storesTo, valueOf}
 use Rattle.order.specs.Order.{Orders}
 use Rattle.order.proofs.Trace.{clash, and-true, same-true, newest, older, store-at, StoreOf}
 use Rattle.model.specs.File.{Entry, total, Part, partOf}
 use Rattle.model.specs.Queue.{Named, nobody, named, Shape, start, Side, Queue, withQueue, lead, shortfall}
 use Rattle.model.specs.Plan.{Plan}
-use Rattle.model.specs.Marks.{batchFailed}
 use Rattle.model.specs.Run.{Result, Does, State, after, firstRing, namesOne, Entered, Step, Runs, stop, move, machineOf, freshOf}
-use Rattle.model.specs.Report.{markedOf, missed}
+use Rattle.model.specs.Report.{missed}
 use Rattle.model.specs.PairFile.{secondRing, partsOf, namesPair}
 use Rattle.model.proofs.Plan.{Planned, no-batch, no-age, past, owning, failing, keeping, storing, loading, completing, planned}
-use Rattle.model.proofs.Rings.{ActIn, ringOf, step-at, stores-not, with-here, run-turns}
+use Rattle.model.proofs.Rings.{ringOf, step-at, stores-not, with-here, run-turns}
 use Rattle.model.proofs.Sides.{with-same}
 use Rattle.model.proofs.Report.{completed-bytes}
 use Rattle.model.proofs.Shortfall.{Lost, step-lost, lost-by, lost-some, none-lost}

@@ -27,7 +27,7 @@ use Rattle.model.proofs.Worked.{run-length}
 use Rattle.promises.specs.Same.{backSyncs, frontSyncs}
 use Rattle.promises.specs.Call.{raceEntry}
 use Rattle.promises.specs.Written.{fileOf}
-use Rattle.promises.specs.Weak.{turns, producer, consumer, payload, backPart, backTurns, frontPart, frontTurns, Racing, EveryWeakerRaces}
+use Rattle.promises.specs.Weak.{turns, producer, payload, backPart, backTurns, frontPart, frontTurns, Racing, EveryWeakerRaces}
 use Rattle.promises.proofs.Turn.{entry, going, Racy}
 use Rattle.promises.proofs.Course.{times, times-last, back-races, front-races}
 use Rattle.promises.proofs.Written.{Whole, InRange, written-schedule, written-part, written-length, written-lawful}

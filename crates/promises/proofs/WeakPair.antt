@@ -16,11 +16,10 @@ use Rattle.model.specs.Outcome.{Outcome}
 use Rattle.model.proofs.Ranges.{multiple-above}
 use Rattle.model.proofs.PairRanges.{PairRoom, lawful-pair-code}
 use Rattle.promises.specs.Same.{backSyncs}
-use Rattle.promises.specs.Call.{raceEntry}
-use Rattle.promises.specs.Written.{fileOf, pairFileOf, pairWith}
+use Rattle.promises.specs.Written.{fileOf, pairWith}
 use Rattle.promises.specs.Alone.{outOf, reportIn, AllName, lowered, alone}
-use Rattle.promises.specs.Weak.{turns, producer, consumer, backPart, backTurns, frontPart, frontTurns, racePart, raceTurns, raceFile, Racing}
-use Rattle.promises.specs.WeakPair.{Fit, otherRing, idlePart, raised, racePair, RacingPair, EveryWeakerPairRaces}
+use Rattle.promises.specs.Weak.{turns, producer, backPart, backTurns, frontPart, frontTurns, racePart, raceTurns, raceFile, Racing}
+use Rattle.promises.specs.WeakPair.{Fit, otherRing, idlePart, raised, racePair, EveryWeakerPairRaces}
 use Rattle.promises.proofs.Written.{Whole, InRange, written-schedule, written-part}
 use Rattle.promises.proofs.Bytes.{Bytes, bytes-at, Small, pair-file-bytes}
 use Rattle.promises.proofs.PairWritten.{pair-written-schedule, written-first, written-second, pair-written-length, pair-written-lawful}

@@ -1,18 +1,16 @@
 -- A file that was written down says what it was written from.
 use mathlib.Core.Path.{_≡_, refl, sym, ap, _∙_}
-use mathlib.Core.List.{List, [], _∷_, _++_}
-use Prim.Native.Nat.{ℕ, zero, suc, _+_, _*_, _-_, _%_, _≤_, _<_}
+use mathlib.Core.List.{List, _++_}
+use Prim.Native.Nat.{ℕ, _+_, _*_, _-_, _%_, _≤_, _<_}
 use native.Mathlib.Omega.{arith}
 use lib.ListN.{length, take, drop, length-append}
 use lib.Seq.{take-at, drop-at, drop-drop}
-use Rattle.order.specs.Trace.{Ring}
 use Rattle.model.specs.Limits.{headerBytes}
-use Rattle.model.specs.File.{total, ringSize, modulusOf, orderBits, pushSizes, popSizes, sizesEnd, pushBytes, scheduleAt, Entry, pairs, flat, scheduleOf, Part, partOf}
+use Rattle.model.specs.File.{total, modulusOf, pushSizes, popSizes, sizesEnd, pushBytes, scheduleAt, Entry, pairs, flat, scheduleOf, Part, partOf}
 use Rattle.model.specs.Codes.{Lawful}
-use Rattle.model.specs.Report.{le4}
 use Rattle.model.proofs.Inverse.{four-read}
 use Rattle.model.proofs.Laid.{ranges-lawful, pairs-flat, length-flat}
-use Rattle.promises.specs.Written.{eightBytes, fileOf}
+use Rattle.promises.specs.Written.{fileOf}
 
 -- What a ring says can be written: the modulus in four bytes, and as many bytes to push as the push sizes add up to.
 pub record Whole (p : Part) : Type 0 where

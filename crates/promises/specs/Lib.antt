@@ -13,3 +13,4 @@ pub mod RaceOnly
 pub mod Pair
 pub mod Alone
 pub mod WeakPair
+pub mod Across
