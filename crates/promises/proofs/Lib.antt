@@ -4,6 +4,7 @@ pub mod Count
 pub mod Log
 pub mod Half
 pub mod Flow
+pub mod Invariant
 pub mod Moves
 pub mod Pushed
 pub mod Strong

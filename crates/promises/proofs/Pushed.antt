@@ -21,7 +21,7 @@ use Rattle.model.proofs.Report.{SoundAt, first-phase, moved-one, all-moved, pas
 use Rattle.model.proofs.Sides.{with-same}
 use Rattle.model.proofs.Rings.{Turn, stranger, halted, does, Turns, none-left, turn, run-turns}
 use Rattle.promises.specs.Batches.{batchesOf, joined}
-use Rattle.promises.proofs.Moves.{each}
+use Rattle.promises.proofs.Invariant.{each}
 
 -- A byte stored: the first one to push goes behind those moved.
 byte-moved : (moved feed : List ℕ) → 0 < length feed → (moved ++ (getD feed 0 0 ∷ [])) ++ drop 1 feed ≡ moved ++ feed

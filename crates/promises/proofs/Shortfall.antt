@@ -28,7 +28,7 @@ use Rattle.promises.specs.Shortfall.{FailsBy, ShortfallFits, NoneFailed,
 use Rattle.promises.proofs.Count.{upTo, upTo-old, upTo-all, upTo-zero}
 use Rattle.promises.proofs.Log.{store-value, store-le}
 use Rattle.promises.proofs.Half.{progress, room-of, forward}
-use Rattle.promises.proofs.Moves.{Invariant}
+use Rattle.promises.proofs.Invariant.{Invariant}
 use Rattle.promises.proofs.Strong.{Fair, fair-sizes, holds as live, calm, lawful-fair}
 use Rattle.promises.proofs.Pair.{pair-fair, pair-strong}
 

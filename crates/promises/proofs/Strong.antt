@@ -33,7 +33,8 @@ use Rattle.promises.proofs.Count.{made, counts-not}
 use Rattle.promises.proofs.Log.{Strong, Quiet}
 use Rattle.promises.proofs.Half.{Sizes, Half, half-quiet, pusher as leader, popper as follower, leads-of, seen-of-yours, seen-of-mine}
 use Rattle.promises.proofs.Flow.{Flow}
-use Rattle.promises.proofs.Moves.{Invariant, goes, refused-keeps, flow-quiet}
+use Rattle.promises.proofs.Invariant.{Invariant, flow-quiet}
+use Rattle.promises.proofs.Moves.{goes, refused-keeps}
 use Rattle.promises.proofs.Pushed.{not-same, completed-pushes}
 
 -- An entry of another ring keeps this ring's invariant.
