@@ -12,7 +12,7 @@ use Rattle.model.specs.Outcome.{marksOf}
 use Rattle.model.specs.PairFile.{secondRing, pushSizesOf, popSizesOf, pushBytesOf, pairScheduleAt, pairScheduleOf, pairShape, pairFresh}
 use Rattle.model.specs.PairCodes.{pairFileTable, LawfulPair}
 use Rattle.model.specs.PairOutcome.{pairNumbersOf}
-use Rattle.model.specs.PairWorked.{PairWorked, pairs-worked, written, PairComes, AllPairsCome}
+use Rattle.model.specs.PairWorked.{PairWorked, pairsWorked, written, PairComes, AllPairsCome}
 use Rattle.model.specs.computed.Machine.{results, ends}
 use Rattle.model.proofs.PairRanges.{PairRoom, lawful-pair-code}
 use Rattle.model.proofs.Some.{some-run}
@@ -47,7 +47,7 @@ got w = record {
 want : PairWorked → Got
 want w = record { code = 0; marks = w .marks; out₁ = w .out₁; numbers₁ = w .numbers₁; out₂ = w .out₂; numbers₂ = w .numbers₂ }
 
-computed : map got pairs-worked ≡ map want pairs-worked
+computed : map got pairsWorked ≡ map want pairsWorked
 unfolding got want total pushSizesOf popSizesOf pushBytesOf pairScheduleAt pairScheduleOf pairFileTable reportOf
 computed = refl
 
@@ -81,5 +81,5 @@ all-come [] e = tt
 all-come (w ∷ ws) e = (come w (cc), all-come ws (cc))
 
 -- THE TABLE: every run of the pair comes out as worked by hand.
-pub pair-runs : AllPairsCome pairs-worked
-pair-runs = all-come pairs-worked computed
+pub pair-runs : AllPairsCome pairsWorked
+pair-runs = all-come pairsWorked computed

@@ -22,15 +22,19 @@ multiple-above m M a b d n = go (M / m) refl
     go (suc zero) e = let z : m * suc zero + M % m ≡ M = rw (← e) (div-add-mod M m) in absurd (n (omega arith))
     go (suc (suc k)) e = let z : m * suc (suc k) + M % m ≡ M = rw (← e) (div-add-mod M m) in omega arith
 
--- THE RANGES of a ring whose eight bytes are the first of f.
-pub record RingRanges (f : List ℕ) : Type 0 where
-  pub some-slot : 1 ≤ ringSize f
-  pub slots : ringSize f ≤ 128
-  pub modulus-low : 2 ≤ modulusOf f
-  pub modulus-high : modulusOf f ≤ 65536
-  pub divided : modulusOf f % ringSize f ≡ 0
-  pub above : ringSize f < modulusOf f
-  pub orders : orderBits f ≤ 15
+-- THE RANGES of a ring's size, modulus and order bits.
+pub record Ranged (m M bits : ℕ) : Type 0 where
+  pub some-slot : 1 ≤ m
+  pub slots : m ≤ 128
+  pub modulus-low : 2 ≤ M
+  pub modulus-high : M ≤ 65536
+  pub divided : M % m ≡ 0
+  pub above : m < M
+  pub orders : bits ≤ 15
+
+-- They are those of a ring whose eight bytes are the first of f.
+abbrev pub RingRanges : List ℕ → Type 0
+RingRanges f = Ranged (ringSize f) (modulusOf f) (orderBits f)
 
 pub ring-ranges : (f : List ℕ) → Clear (ringTable f) → RingRanges f
 ring-ranges f z =

@@ -22,14 +22,14 @@ pub record PairWorked : Type 0 where
 abbrev file : (bits₁ bits₂ : ℕ) → List ℕ → List ℕ
 file bits₁ bits₂ rest = 1 ∷ 2 ∷ 0 ∷ 0 ∷ 0 ∷ bits₁ ∷ 1 ∷ 1 ∷ 1 ∷ 2 ∷ 0 ∷ 0 ∷ 0 ∷ bits₂ ∷ 1 ∷ 1 ∷ rest
 
--- The first ring pushes and pops one byte. The second ring's push of two bytes fits in no ring of one slot, so that it loads front and fails; its
--- pop of none stores front.
-abbrev messages : List ℕ → List ℕ
-messages schedule = 1 ∷ 1 ∷ 2 ∷ 0 ∷ 65 ∷ 66 ∷ 67 ∷ schedule
+-- The first ring pushes and pops one byte; the second carries none, and yet a signal: its pop of no byte stores front, and its push of two, which no
+-- ring of one slot has room for, loads front and fails.
+abbrev withSignal : List ℕ → List ℕ
+withSignal schedule = 1 ∷ 1 ∷ 2 ∷ 0 ∷ 65 ∷ 66 ∷ 67 ∷ schedule
 
 -- Both rings push and pop one byte.
-abbrev letters : List ℕ → List ℕ
-letters schedule = 1 ∷ 1 ∷ 1 ∷ 1 ∷ 65 ∷ 66 ∷ schedule
+abbrev withByte : List ℕ → List ℕ
+withByte schedule = 1 ∷ 1 ∷ 1 ∷ 1 ∷ 65 ∷ 66 ∷ schedule
 
 -- An entry of each core byte, with age 0.
 abbrev E0 : List ℕ → List ℕ
@@ -45,43 +45,43 @@ abbrev E3 : List ℕ → List ℕ
 E3 l = 3 ∷ 0 ∷ l
 
 -- Core 0 pushes a byte at the first ring, then stores the second ring's front. Core 1 loads that front.
-abbrev by-way : List ℕ → List ℕ
-by-way l = E0 (E0 (E0 (E3 (E3 (E2 (E2 l))))))
+abbrev byWay : List ℕ → List ℕ
+byWay l = E0 (E0 (E0 (E3 (E3 (E2 (E2 l))))))
 
 -- Nothing happened at a ring.
 abbrev silent : List ℕ
 silent = 0 ∷ 0 ∷ 0 ∷ 0 ∷ 0 ∷ 0 ∷ 0 ∷ 0 ∷ 0 ∷ 0 ∷ 0 ∷ 0 ∷ []
 
--- The second ring of `messages`: four entries performed, one push failed by one byte.
-abbrev failed-once : List ℕ
-failed-once = 4 ∷ 0 ∷ 0 ∷ 0 ∷ 0 ∷ 0 ∷ 1 ∷ 0 ∷ 0 ∷ 0 ∷ 1 ∷ 0 ∷ []
+-- The second ring's report there: four entries performed, one push failed by one byte.
+abbrev failedOnce : List ℕ
+failedOnce = 4 ∷ 0 ∷ 0 ∷ 0 ∷ 0 ∷ 0 ∷ 1 ∷ 0 ∷ 0 ∷ 0 ∷ 1 ∷ 0 ∷ []
 
 -- Axiom 2 by way of the other ring: core 1 has read nothing of the first ring's back, and may not read its initial store.
 abbrev pub hides : PairWorked
 hides = record {
-  file = file 15 15 (messages (by-way (E1 (1 ∷ 1 ∷ E1 (E1 (E1 []))))));
+  file = file 15 15 (withSignal (byWay (E1 (1 ∷ 1 ∷ E1 (E1 (E1 []))))));
   marks = 1 ∷ 4 ∷ 6 ∷ 1 ∷ 6 ∷ 1 ∷ 3 ∷ 1 ∷ 134 ∷ 2 ∷ 5 ∷ 6 ∷ [];
   out₁ = 65 ∷ [];
   numbers₁ = 7 ∷ 1 ∷ 1 ∷ 1 ∷ 1 ∷ 0 ∷ 0 ∷ 0 ∷ 0 ∷ 0 ∷ 0 ∷ 0 ∷ [];
   out₂ = [];
-  numbers₂ = failed-once;
+  numbers₂ = failedOnce;
 }
 
 -- An order by way of the other ring: the first ring's back does not synchronise, the second ring's front does, and nothing races.
 abbrev pub orders : PairWorked
 orders = record {
-  file = file 13 15 (messages (by-way (E1 (E1 (E1 (E1 []))))));
+  file = file 13 15 (withSignal (byWay (E1 (E1 (E1 (E1 []))))));
   marks = 1 ∷ 4 ∷ 6 ∷ 1 ∷ 6 ∷ 1 ∷ 3 ∷ 1 ∷ 2 ∷ 5 ∷ 6 ∷ [];
   out₁ = 65 ∷ [];
   numbers₁ = 7 ∷ 0 ∷ 1 ∷ 1 ∷ 1 ∷ 0 ∷ 0 ∷ 0 ∷ 0 ∷ 0 ∷ 0 ∷ 0 ∷ [];
   out₂ = [];
-  numbers₂ = failed-once;
+  numbers₂ = failedOnce;
 }
 
 -- Without the other ring's entries the same file races.
-abbrev pub alone-races : PairWorked
-alone-races = record {
-  file = file 13 15 (messages (E0 (E0 (E0 (E1 (E1 (E1 (E1 []))))))));
+abbrev pub aloneRaces : PairWorked
+aloneRaces = record {
+  file = file 13 15 (withSignal (E0 (E0 (E0 (E1 (E1 (E1 (E1 []))))))));
   marks = 1 ∷ 4 ∷ 6 ∷ 1 ∷ 2 ∷ 7 ∷ 130 ∷ [];
   out₁ = [];
   numbers₁ = 6 ∷ 1 ∷ 1 ∷ 0 ∷ 0 ∷ 1 ∷ 0 ∷ 0 ∷ 6 ∷ 2 ∷ 0 ∷ 0 ∷ [];
@@ -90,20 +90,20 @@ alone-races = record {
 }
 
 -- And where core 1's load of the second ring's front is relaxed.
-abbrev pub relaxed-races : PairWorked
-relaxed-races = record {
-  file = file 13 14 (messages (by-way (E1 (E1 (E1 (E1 []))))));
+abbrev pub relaxedRaces : PairWorked
+relaxedRaces = record {
+  file = file 13 14 (withSignal (byWay (E1 (E1 (E1 (E1 []))))));
   marks = 1 ∷ 4 ∷ 6 ∷ 1 ∷ 6 ∷ 1 ∷ 3 ∷ 1 ∷ 2 ∷ 7 ∷ 130 ∷ [];
   out₁ = [];
   numbers₁ = 6 ∷ 1 ∷ 1 ∷ 0 ∷ 0 ∷ 1 ∷ 0 ∷ 0 ∷ 10 ∷ 2 ∷ 0 ∷ 0 ∷ [];
   out₂ = [];
-  numbers₂ = failed-once;
+  numbers₂ = failedOnce;
 }
 
 -- A byte in each direction, the two rings' entries one about the other.
 abbrev pub crosses : PairWorked
 crosses = record {
-  file = file 15 15 (letters (E0 (E2 (E0 (E2 (E0 (E2 (E1 (E3 (E1 (E3 (E1 (E3 (E1 (E3 [])))))))))))))));
+  file = file 15 15 (withByte (E0 (E2 (E0 (E2 (E0 (E2 (E1 (E3 (E1 (E3 (E1 (E3 (E1 (E3 [])))))))))))))));
   marks = 1 ∷ 1 ∷ 4 ∷ 4 ∷ 6 ∷ 6 ∷ 1 ∷ 1 ∷ 2 ∷ 2 ∷ 5 ∷ 5 ∷ 6 ∷ 6 ∷ [];
   out₁ = 65 ∷ [];
   numbers₁ = 7 ∷ 0 ∷ 1 ∷ 1 ∷ 1 ∷ 0 ∷ 0 ∷ 0 ∷ 0 ∷ 0 ∷ 0 ∷ 0 ∷ [];
@@ -112,9 +112,9 @@ crosses = record {
 }
 
 -- A race in the second ring halts both. Core byte 4 names nobody, and counts for the first ring; so does an entry of the halted machine there.
-abbrev pub halts-both : PairWorked
-halts-both = record {
-  file = file 15 13 (letters (E0 (E2 (E2 (E2 (E3 (E3 (E3 (E0 (4 ∷ 0 ∷ E3 []))))))))));
+abbrev pub haltsBoth : PairWorked
+haltsBoth = record {
+  file = file 15 13 (withByte (E0 (E2 (E2 (E2 (E3 (E3 (E3 (E0 (4 ∷ 0 ∷ E3 []))))))))));
   marks = 1 ∷ 1 ∷ 4 ∷ 6 ∷ 1 ∷ 2 ∷ 7 ∷ 130 ∷ 129 ∷ 130 ∷ [];
   out₁ = [];
   numbers₁ = 1 ∷ 2 ∷ 0 ∷ 0 ∷ 0 ∷ 0 ∷ 0 ∷ 0 ∷ 0 ∷ 0 ∷ 0 ∷ 0 ∷ [];
@@ -122,8 +122,8 @@ halts-both = record {
   numbers₂ = 6 ∷ 1 ∷ 1 ∷ 0 ∷ 0 ∷ 1 ∷ 0 ∷ 0 ∷ 7 ∷ 3 ∷ 0 ∷ 0 ∷ [];
 }
 
-abbrev pub pairs-worked : List PairWorked
-pairs-worked = hides ∷ orders ∷ alone-races ∷ relaxed-races ∷ crosses ∷ halts-both ∷ []
+abbrev pub pairsWorked : List PairWorked
+pairsWorked = hides ∷ orders ∷ aloneRaces ∷ relaxedRaces ∷ crosses ∷ haltsBoth ∷ []
 
 -- What is written, in buffers that held b.
 abbrev pub written : PairWorked → Lent → Lent

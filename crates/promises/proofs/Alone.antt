@@ -52,17 +52,7 @@ module _ (f : List ℕ) (lawful : LawfulPair f) (r : Ring) where
   part-whole = let h = pair-ranges f lawful .ring r .modulus-high in record { modulus-fits = omega arith; bytes-are = pair-laid f lawful .bytes r }
 
   pub part-in-range : InRange (partsOf f r)
-  part-in-range =
-      let h = pair-ranges f lawful .ring r in
-      record {
-        some-slot = h .some-slot;
-        slots = h .slots;
-        modulus-low = h .modulus-low;
-        modulus-high = h .modulus-high;
-        divided = h .divided;
-        above = h .above;
-        orders = h .orders;
-      }
+  part-in-range = pair-ranges f lawful .ring r
 
 -- The ring alone needs no more bytes than the pair.
 before-entries : (f : List ℕ) → LawfulPair f → (r : Ring) → r < 2

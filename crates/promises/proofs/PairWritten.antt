@@ -1,5 +1,5 @@
 -- A pair's file that was written down says what it was written from.
-use mathlib.Core.Path.{_≡_, refl, sym, ap, _∙_}
+use mathlib.Core.Path.{_≡_, refl, sym, ap, _∙_, subst}
 use mathlib.Core.List.{List, _++_}
 use Prim.Native.Nat.{ℕ, zero, suc, _+_, _*_, _-_, _%_, _≤_}
 use native.Mathlib.Omega.{arith}
@@ -10,6 +10,7 @@ use Rattle.model.specs.PairFile.{secondRing, headerOf, sizesAt, pushSizesOf, po
 use Rattle.model.specs.PairCodes.{LawfulPair}
 use Rattle.model.proofs.Inverse.{four-read}
 use Rattle.model.proofs.Laid.{pairs-flat, length-flat}
+use Rattle.model.proofs.Ranges.{Ranged}
 use Rattle.model.proofs.PairRanges.{ranges-lawful-pair}
 use Rattle.promises.specs.Written.{pairFileOf}
 use Rattle.promises.proofs.Written.{Whole, InRange, part-there, part-next}
@@ -130,32 +131,14 @@ module _ (p q : Part) (w : Whole p) (v : Whole q) (es : List Entry) where
   unfolding pairFileOf pairScheduleAt
   pair-written-lawful r s few =
       let l = pair-written-length in
-      let m₁ = modulus₁ in
-      let m₂ = modulus₂ in
       let b₁ = many₁ in
       let b₂ = many₂ in
       ranges-lawful-pair f (record {
         header = omega arith;
         bounded = few;
         ring = λ k. elim k [
-          | zero ↦ record {
-            some-slot = r .some-slot;
-            slots = r .slots;
-            modulus-low = omega (arith, r .modulus-low);
-            modulus-high = omega (arith, r .modulus-high);
-            divided = ap (λ n. n % p .size) m₁ ∙ r .divided;
-            above = omega (arith, r .above);
-            orders = r .orders;
-          }
-          | suc n ↦ record {
-            some-slot = s .some-slot;
-            slots = s .slots;
-            modulus-low = omega (arith, s .modulus-low);
-            modulus-high = omega (arith, s .modulus-high);
-            divided = ap (λ n. n % q .size) m₂ ∙ s .divided;
-            above = omega (arith, s .above);
-            orders = s .orders;
-          }
+          | zero ↦ subst (λ (M : ℕ). Ranged (p .size) M (p .bits)) (sym modulus₁) r
+          | suc n ↦ subst (λ (M : ℕ). Ranged (q .size) M (q .bits)) (sym modulus₂) s
         ];
         sizes-in = omega arith;
         bytes-in = omega arith;

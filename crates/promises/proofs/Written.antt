@@ -9,6 +9,7 @@ use Rattle.model.specs.Limits.{headerBytes}
 use Rattle.model.specs.File.{total, modulusOf, pushSizes, popSizes, sizesEnd, pushBytes, scheduleAt, Entry, pairs, flat, scheduleOf, Part, partOf}
 use Rattle.model.specs.Codes.{Lawful}
 use Rattle.model.proofs.Inverse.{four-read}
+use Rattle.model.proofs.Ranges.{Ranged}
 use Rattle.model.proofs.Laid.{ranges-lawful, pairs-flat, length-flat}
 use Rattle.promises.specs.Written.{fileOf}
 
@@ -18,14 +19,8 @@ pub record Whole (p : Part) : Type 0 where
   pub bytes-are : length (p .pushBytes) ≡ total (p .pushSizes)
 
 -- Its numbers are in their ranges.
-pub record InRange (p : Part) : Type 0 where
-  pub some-slot : 1 ≤ p .size
-  pub slots : p .size ≤ 128
-  pub modulus-low : 2 ≤ p .modulus
-  pub modulus-high : p .modulus ≤ 65536
-  pub divided : p .modulus % p .size ≡ 0
-  pub above : p .size < p .modulus
-  pub orders : p .bits ≤ 15
+abbrev pub InRange : Part → Type 0
+InRange p = Ranged (p .size) (p .modulus) (p .bits)
 
 -- A part of a list, and what follows it.
 pub part-there : (f : List ℕ) (at : ℕ) (l rest : List ℕ) → drop at f ≡ l ++ rest → take (length l) (drop at f) ≡ l
