@@ -10,7 +10,6 @@ pub mod Written
 pub mod Weak
 pub mod Shortfall
 pub mod RaceOnly
-pub mod Pair
 pub mod Alone
 pub mod WeakPair
 pub mod Across
