@@ -1,5 +1,6 @@
 /* What the compiled library copies at an entry: its calls of memcpy are counted, by the entry's mark.
- * Link it with -Wl,--wrap=memcpy. Prints "copies MARK COPIES BYTES", once for each different pair. */
+ * Of a foreign load it also matters whether its age is 0.
+ * Link it with -Wl,--wrap=memcpy. Prints "copies MARK AGED COPIES BYTES", once for each different pair; AGED is 1 for a foreign load of another age. */
 #include <stdio.h>
 #include <stdlib.h>
 
@@ -32,14 +33,19 @@ static struct count copies_of(const struct run *r, size_t length) {
 }
 
 /* Says it once. */
-static void tell(unsigned mark, struct count c) {
-  static struct count told[256][8];
-  static size_t n[256];
-  for (size_t i = 0; i < n[mark]; i++) {
-    if (told[mark][i].copies == c.copies && told[mark][i].bytes == c.bytes) return;
+static void tell(unsigned mark, unsigned aged, struct count c) {
+  static struct count told[256][2][8];
+  static size_t n[256][2];
+  for (size_t i = 0; i < n[mark][aged]; i++) {
+    if (told[mark][aged][i].copies == c.copies && told[mark][aged][i].bytes == c.bytes) return;
   }
-  if (n[mark] < 8) told[mark][n[mark]++] = c;
-  printf("copies %u %lu %lu\n", mark, c.copies, c.bytes);
+  if (n[mark][aged] < 8) told[mark][aged][n[mark][aged]++] = c;
+  printf("copies %u %u %lu %lu\n", mark, aged, c.copies, c.bytes);
+}
+
+/* Of the entries that are performed, only a foreign load may have an age but 0. */
+static unsigned is_aged(uint8_t mark, uint8_t age) {
+  return mark < FERRULIQUE_NO_SUCH_CORE && age != 0;
 }
 
 /* Entry by entry: what the file with one entry more copies beyond the file without it. */
@@ -50,7 +56,7 @@ static void count_case(const struct bench_case *c) {
   struct count before = copies_of(&r, at);
   for (size_t i = 0; i < n && i < ENTRIES; i++) {
     struct count after = copies_of(&r, at + 2 * (i + 1));
-    tell(marks[i], (struct count){after.copies - before.copies, after.bytes - before.bytes});
+    tell(marks[i], is_aged(marks[i], r.file[at + 2 * i + 1]), (struct count){after.copies - before.copies, after.bytes - before.bytes});
     before = after;
   }
 }

@@ -36,10 +36,10 @@ def instructions_rows(times):
 
 
 def copies_rows(copies):
-    """Marks that copy the same stand in one row."""
+    """Marks that copy the same stand in one row; a foreign load of another age than 0 is told apart."""
     marks = {}
-    for mark, calls, size in sorted(copies):
-        marks.setdefault((calls, size), []).append(str(mark))
+    for mark, aged, calls, size in sorted(copies):
+        marks.setdefault((calls, size), []).append(f"{mark} at an age above 0" if aged else str(mark))
     return [row(", ".join(names), calls, f"{size:,}") for (calls, size), names in marks.items()]
 
 
