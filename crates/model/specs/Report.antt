@@ -56,7 +56,7 @@ abbrev pub entryWith : (Result → Bool) → ℕ → List Result → ℕ
 entryWith p n [] = 0
 entryWith p n (x ∷ xs) = cond (p x) n (entryWith p (suc n) xs)
 
--- Did it race, and counts for ring r?
+-- Did it race, and does it count for ring r?
 abbrev pub racedAt : Ring → Result → Bool
 racedAt r x = eqb (x .ring) r && marked raceFound x
 

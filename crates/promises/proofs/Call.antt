@@ -21,8 +21,9 @@ use Rattle.model.proofs.Inverse.{reads-back}
 use Rattle.model.proofs.Laid.{Ranges, lawful-ranges, code-means}
 use Rattle.model.proofs.OneRing.{of-one-ring}
 use Rattle.model.proofs.Report.{completed-bytes}
-use Rattle.promises.specs.Strong.{NeverRaced, pushed, popped, pushedBytes, poppedBytes, Flows}
-use Rattle.promises.specs.Call.{bytesPushed, bytesPopped, occupancyTold, Told, NoRaceTold, StrongCallKeeps}
+use Rattle.promises.specs.Flows.{pushed, popped, pushedBytes, poppedBytes, Flows}
+use Rattle.promises.specs.Strong.{NeverRaced}
+use Rattle.promises.specs.Call.{bytesPushed, bytesPopped, occupancyTold, Told, NoRaceTold, AlwaysCallFlows, StrongCallKeeps}
 use Rattle.promises.proofs.Pushed.{not-same}
 use Rattle.promises.proofs.Strong.{Fair, flows, lawful-fair, strong-keeps}
 
@@ -120,16 +121,15 @@ bytes-few : (f : List ℕ) → Ranges f → total (pushSizes f) ≤ 65536
 unfolding scheduleAt
 bytes-few f h = let a = h .bytes-in in let b = h .bounded in omega arith
 
--- THE PROMISE OF A CALL
-pub strong-call-keeps : StrongCallKeeps
-strong-call-keeps f marks out report r marks′ out′ report′ o zero strong =
+-- THE PROMISE OF EVERY CALL
+pub always-call-flows : AlwaysCallFlows
+always-call-flows f marks out report r marks′ out′ report′ o zero =
     let lawful = code-means f (length marks) (length out) (length report) (sym (o .code-is) ∙ zero) .0 in
     let ran = o .lawful zero in
     let xs = ran .results in
     let s = ran .end in
     let past = drop (length (s .queue firstRing .out)) out in
     let rest = drop reportBytes report in
-    let k = strong-keeps f lawful strong (scheduleOf f) xs s (ran .run) in
     let few = bytes-few f (lawful-ranges f lawful) in
     let fair : (r : Ring) → Fair (partOf f) = λ r. lawful-fair f lawful in
     record {
@@ -137,7 +137,18 @@ strong-call-keeps f marks out report r marks′ out′ report′ o zero strong =
       end = s;
       run = ran .run;
       marks-are = rw (ran .marks-are) (marks-there xs marks);
-      no-race = rw (ran .report-is) (no-race-told (λ r. partOf f) namesOne fair (ran .run) firstRing few (k .calm .no-race-mark) rest);
       told = rw (ran .out-is, ran .report-is) (subst (λ l. Told firstRing (partOf f) l (s .queue firstRing .out ++ past) (bytesOf (numbersOf f xs s) ++ rest))
           (of-one-ring f (ran .run)) (ring-told (λ r. partOf f) namesOne fair (ran .run) firstRing few rest past));
+    }
+
+-- THE PROMISE OF A CALL WITH STRONG ORDERS
+pub strong-call-keeps : StrongCallKeeps
+strong-call-keeps f marks out report r marks′ out′ report′ o zero strong =
+    let lawful = code-means f (length marks) (length out) (length report) (sym (o .code-is) ∙ zero) .0 in
+    let ran = o .lawful zero in
+    let k = strong-keeps f lawful strong (scheduleOf f) (ran .results) (ran .end) (ran .run) in
+    record {
+      flows = always-call-flows f marks out report r marks′ out′ report′ o zero;
+      no-race = rw (ran .report-is) (no-race-told (λ r. partOf f) namesOne (λ r. lawful-fair f lawful) (ran .run) firstRing (bytes-few f (lawful-ranges f lawful))
+          (k .calm .no-race-mark) (drop reportBytes report));
     }

@@ -1,4 +1,4 @@
--- The promise of strong orders for two rings.
+-- The promises of every setting and of strong orders, for two rings.
 use mathlib.Core.Path.{_≡_}
 use mathlib.Core.List.{List}
 use Prim.Native.Nat.{ℕ, zero, suc, _/_}
@@ -12,7 +12,7 @@ use Rattle.model.specs.PairCodes.{LawfulPair}
 use Rattle.model.proofs.PairRanges.{pair-ranges}
 use Rattle.model.proofs.PairLaid.{pair-laid}
 use Rattle.promises.specs.Strong.{allStrong}
-use Rattle.promises.specs.Pair.{StrongPairKeeps}
+use Rattle.promises.specs.Pair.{AlwaysPairFlows, StrongPairKeeps}
 use Rattle.promises.proofs.Strong.{Fair, flows, calm}
 
 pub pair-fair : (f : List ℕ) → LawfulPair f → (r : Ring) → Fair (partsOf f r)
@@ -34,8 +34,15 @@ pub pair-strong : (f : List ℕ) → orderBits (headerOf firstRing f) ≡ allStr
 pair-strong f strong₁ strong₂ zero = strong₁
 pair-strong f strong₁ strong₂ (suc r) = strong₂
 
+-- THE PROMISE OF EVERY SETTING
+pub always-pair-flows : AlwaysPairFlows
+always-pair-flows f lawful es xs s run =
+    let k = flows (partsOf f) namesPair (pair-fair f lawful) run in
+    record { first = k firstRing; second = k secondRing }
+
 -- THE PROMISE OF EIGHT STRONG ORDERS
 pub strong-pair-keeps : StrongPairKeeps
-strong-pair-keeps f lawful strong₁ strong₂ es xs s run =
-    let k = flows (partsOf f) namesPair (pair-fair f lawful) run in
-    record { calm = calm (partsOf f) namesPair (pair-fair f lawful) run (pair-strong f strong₁ strong₂); first = k firstRing; second = k secondRing }
+strong-pair-keeps f lawful strong₁ strong₂ es xs s run = record {
+  calm = calm (partsOf f) namesPair (pair-fair f lawful) run (pair-strong f strong₁ strong₂);
+  flows = always-pair-flows f lawful es xs s run;
+}

@@ -27,7 +27,8 @@ use Rattle.model.proofs.Laid.{lawful-ranges, lawful-laid}
 use Rattle.model.proofs.Halted.{halts-at-races, halted-stays}
 use Rattle.model.proofs.Slots.{held, held-kept}
 use Rattle.model.proofs.Report.{completed-bytes}
-use Rattle.promises.specs.Strong.{allStrong, NeverRaced, pushed, popped, pushedBytes, poppedBytes, Calm, Flows, StrongKeeps}
+use Rattle.promises.specs.Flows.{pushed, popped, pushedBytes, poppedBytes, Flows, AlwaysFlows}
+use Rattle.promises.specs.Strong.{allStrong, NeverRaced, Calm, StrongKeeps}
 use Rattle.promises.proofs.Wrap.{room-is}
 use Rattle.promises.proofs.Count.{made, counts-not}
 use Rattle.promises.proofs.Log.{Strong, Quiet}
@@ -267,12 +268,13 @@ lawful-fair f lawful =
       enough = let e = lawful-laid f lawful .bytes in omega arith;
     }
 
-pub one-flows : (f : List ℕ) → Lawful f → (es : List Entry) (xs : List Result) (s : State) → Runs (shapeOf f) (fresh f) es xs s → Flows firstRing (partOf f) xs s
-one-flows f lawful es xs s run = rw (of-one-ring f run) at (flows (λ r. partOf f) namesOne (λ r. lawful-fair f lawful) run firstRing)
+-- THE PROMISE OF EVERY SETTING
+pub always-flows : AlwaysFlows
+always-flows f lawful es xs s run = rw (of-one-ring f run) at (flows (λ r. partOf f) namesOne (λ r. lawful-fair f lawful) run firstRing)
 
 -- THE PROMISE OF STRONG ORDERS
 pub strong-keeps : StrongKeeps
 strong-keeps f lawful strong es xs s run = record {
   calm = calm (λ r. partOf f) namesOne (λ r. lawful-fair f lawful) run (λ r. strong);
-  flows = one-flows f lawful es xs s run;
+  flows = always-flows f lawful es xs s run;
 }

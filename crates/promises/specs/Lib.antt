@@ -1,5 +1,6 @@
 -- The crate's definitions, file by file.
 pub mod Batches
+pub mod Flows
 pub mod Strong
 pub mod Pair
 pub mod Call

@@ -1,19 +1,15 @@
 -- What all four orders strong guarantee, after each entry of a run.
 use mathlib.Core.Path.{_≡_}
 use mathlib.Core.Bool.{false}
-use mathlib.Core.List.{List, [], _∷_, _++_}
-use Prim.Native.Nat.{ℕ, _+_, _≤_}
-use lib.ListN.{take}
-use Rattle.order.specs.Trace.{other, Ring}
+use mathlib.Core.List.{List, [], _∷_}
+use Prim.Native.Nat.{ℕ}
 use Rattle.order.specs.Order.{Orders}
 use Rattle.order.specs.Race.{DataRace}
-use Rattle.model.specs.File.{Entry, total, orderBits, Part, partOf}
+use Rattle.model.specs.File.{Entry, orderBits, partOf}
 use Rattle.model.specs.Codes.{Lawful}
 use Rattle.model.specs.Marks.{raceFound}
-use Rattle.model.specs.Queue.{pusher}
 use Rattle.model.specs.Run.{Result, State, Runs, firstRing, shapeOf, fresh}
-use Rattle.model.specs.Report.{completedOf, occupancy}
-use Rattle.promises.specs.Batches.{batchesOf, joined}
+use Rattle.promises.specs.Flows.{Flows}
 
 -- The order bits with all four set.
 abbrev pub allStrong : ℕ
@@ -24,21 +20,6 @@ abbrev pub NeverRaced : List Result → Type 0
 NeverRaced [] = Unit {0}
 NeverRaced (x ∷ xs) = (¬ (x .mark ≡ raceFound)) × NeverRaced xs
 
--- Bytes pushed and bytes popped at ring r, of which the file says p, over completed batches: two numbers of the report. The results are
--- those that count for the ring.
-abbrev pub pushed : Ring → Part → List Result → ℕ
-pushed r p xs = total (completedOf (pusher r) xs (p .pushSizes))
-
-abbrev pub popped : Ring → Part → List Result → ℕ
-popped r p xs = total (completedOf (other (pusher r)) xs (p .popSizes))
-
--- The bytes themselves.
-abbrev pub pushedBytes : Ring → State → List ℕ
-pushedBytes r s = s .queue r .side (pusher r) .completed
-
-abbrev pub poppedBytes : Ring → State → List ℕ
-poppedBytes r s = s .queue r .side (other (pusher r)) .completed
-
 -- A run so far, with results xs, in state s.
 -- No two accesses of one slot by the two cores, one of them a store, are unordered; no entry got the mark of a race; the machine runs.
 pub record Calm (o : Orders) (xs : List Result) (s : State) : Type 0 where
@@ -46,17 +27,7 @@ pub record Calm (o : Orders) (xs : List Result) (s : State) : Type 0 where
   pub no-race-mark : NeverRaced xs
   pub running : s .halted ≡ false
 
--- Ring r, of which the file says p, with the results xs that count for it.
--- The occupancy is the bytes pushed less the bytes popped, and at most m.
--- The bytes popped are the first of the bytes pushed, in order; and those are the file's own, batch by batch, without the failed batches.
--- Out holds the bytes popped, then those of the pop that is under way.
-pub record Flows (r : Ring) (p : Part) (xs : List Result) (s : State) : Type 0 where
-  pub occupancy-is : occupancy r (p .modulus) (s .trace) + popped r p xs ≡ pushed r p xs
-  pub within-ring : occupancy r (p .modulus) (s .trace) ≤ p .size
-  pub first-in-first-out : poppedBytes r s ≡ take (popped r p xs) (pushedBytes r s)
-  pub out-begins : s .queue r .out ≡ poppedBytes r s ++ s .queue r .side (other (pusher r)) .moved
-  pub from-the-file : pushedBytes r s ≡ joined (completedOf (pusher r) xs (batchesOf (p .pushSizes) (p .pushBytes)))
-
+-- What holds under every setting, and that nothing races, of a run of file f: every result counts for its one ring.
 pub record Kept (f : List ℕ) (xs : List Result) (s : State) : Type 0 where
   pub calm : Calm (shapeOf f .orders) xs s
   pub flows : Flows firstRing (partOf f) xs s
