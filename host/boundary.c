@@ -4,7 +4,7 @@
  * What it can tell without a second machine: nothing outside a buffer is read or written (it would end here); with a code but 0 no byte
  * changes; with code 0 none past what the report counts does; the answer does not depend on where the buffers lie or what they held; buffers
  * of just enough bytes are enough, and one byte less gives 9, 10 or 11; a shortfall is there exactly where a batch failed, and is at most a
- * batch's size. */
+ * batch's size; asked only where the file races, the library says what the report says. */
 #define _DEFAULT_SOURCE
 #include <stdio.h>
 #include <stdlib.h>
@@ -111,11 +111,25 @@ static int shortfalls_fit(const uint8_t *report, const uint8_t *file) {
          shortfall_fits(report, FERRULIQUE_FAILED_POPS, FERRULIQUE_POP_SHORTFALL, pops, file[7]);
 }
 
+/* Is the answer of ferrulique_race this answer's code and, of a file that ran, its two numbers? */
+static int race_fits(const struct answer *a, const uint8_t *file, size_t n) {
+  uint32_t entry = 0, partner = 0;
+  if (a->code == FERRULIQUE_RAN) {
+    entry = ferrulique_number(a->report, FERRULIQUE_RACE_ENTRY);
+    partner = ferrulique_number(a->report, FERRULIQUE_RACE_PARTNER);
+  }
+  memcpy(file_end - n, file, n);
+  uint64_t race = ferrulique_race(file_end - n, n);
+  return race >> 56 == 0 && ferrulique_code(race) == a->code && ferrulique_race_entry(race) == entry && ferrulique_race_partner(race) == partner &&
+         memcmp(file_end - n, file, n) == 0;
+}
+
 static void try_file(const uint8_t *file, size_t n) {
   static struct answer long_enough, just_enough, shorter;
   size_t pops = n < FERRULIQUE_HEADER_BYTES ? 0 : file[7];
   call(&long_enough, file, n, n / 2 + SPARE, 255 * pops + SPARE, FERRULIQUE_REPORT_BYTES + SPARE, 0xA5);
   refused[long_enough.code]++;
+  if (!race_fits(&long_enough, file, n)) fail("asked only where it races, the library says something else", file, n);
   if (long_enough.code != FERRULIQUE_RAN) {
     call(&shorter, file, n, 0, 0, 0, 0);
     same(&long_enough, &shorter, file, n);

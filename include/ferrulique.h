@@ -1,7 +1,8 @@
 /* Ferrulique: plays a single-producer single-consumer ring between two cores, one memory access at a time, and says where two accesses race.
  *
- * One function. It is proved to give, for every file and all buffers, exactly the answer, the marks, the bytes and the report that the
- * machine's definition gives; docs/PROMISES.md says what that is. C11 and C++11. */
+ * ferrulique_run plays a whole file. It is proved to give, for every file and all buffers, exactly the answer, the marks, the bytes and the
+ * report that the machine's definition gives; docs/PROMISES.md says what that is. ferrulique_race only tells whether and where a file races, and
+ * is proved to tell what the report would. C11 and C++11. */
 #ifndef FERRULIQUE_H
 #define FERRULIQUE_H
 
@@ -92,6 +93,18 @@ static inline uint32_t ferrulique_number(const uint8_t *report, enum ferrulique_
   return (uint32_t)p[0] | (uint32_t)p[1] << 8 | (uint32_t)p[2] << 16 | (uint32_t)p[3] << 24;
 }
 
+/* An answer of 64 bits carries a ferrulique_code in its low 8 bits and what there is to tell beside it above; with any code but
+ * FERRULIQUE_RAN all of that is 0. */
+static inline uint32_t ferrulique_code(uint64_t answer) { return (uint32_t)(answer & 0xFFu); }
+
+/* The number above the code, of an answer that carries one number. */
+static inline uint64_t ferrulique_count(uint64_t answer) { return answer >> 8; }
+
+/* The two numbers above the code, of an answer of ferrulique_race: the racing entry, counted from 1, in bits 8 to 31; the latest entry that it
+ * races with in bits 32 to 55. Both are 0 where nothing raced. */
+static inline uint32_t ferrulique_race_entry(uint64_t answer) { return (uint32_t)(answer >> 8 & 0xFFFFFFu); }
+static inline uint32_t ferrulique_race_partner(uint64_t answer) { return (uint32_t)(answer >> 32 & 0xFFFFFFu); }
+
 /* Plays the run file and answers a ferrulique_code.
  *
  * For FERRULIQUE_RAN: marks gets one byte for each entry of the schedule; out the bytes that data loads read, FERRULIQUE_DATA_LOADS of them;
@@ -110,6 +123,22 @@ static inline uint32_t ferrulique_number(const uint8_t *report, enum ferrulique_
  *   } */
 uint32_t ferrulique_run(const uint8_t *file, size_t file_len, uint8_t *marks, size_t marks_len, uint8_t *out, size_t out_len, uint8_t *report,
                         size_t report_len);
+
+/* Plays the run file and answers only whether and where it races: no buffer is lent, and no mark, byte or report is written.
+ *
+ * Its code is one of 0 to 8, FERRULIQUE_RAN to FERRULIQUE_ODD_SCHEDULE: the code that ferrulique_run gives to the file with buffers long enough.
+ * For FERRULIQUE_RAN, ferrulique_race_entry and ferrulique_race_partner are the report's FERRULIQUE_RACE_ENTRY and FERRULIQUE_RACE_PARTNER. Bits
+ * 56 to 63 are 0. The file is asked for what ferrulique_run asks of it: it is readable for its length, and may be a null pointer where that is 0.
+ * It is not written to. What stands above of threads, allocation, time and what is called holds here too. Stack: 6,232 bytes measured on
+ * x86-64, whatever the file.
+ *
+ *   uint64_t answer = ferrulique_race(file, n);
+ *   if (ferrulique_code(answer) != FERRULIQUE_RAN) {
+ *     printf("refused with code %u\n", (unsigned)ferrulique_code(answer));
+ *   } else if (ferrulique_race_entry(answer) != 0) {
+ *     printf("entry %u races with entry %u\n", (unsigned)ferrulique_race_entry(answer), (unsigned)ferrulique_race_partner(answer));
+ *   } */
+uint64_t ferrulique_race(const uint8_t *file, size_t file_len);
 
 #ifdef __cplusplus
 }

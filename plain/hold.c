@@ -1,4 +1,4 @@
-/* Holds the library against plain C: code, marks, out, report and every byte that must stay.
+/* Holds the library against plain C: code, marks, out, report and every byte that must stay; and where the file races, asked alone.
  *
  * Plain C gets heap buffers of the exact length, so that the address sanitizer sees each of its accesses. The library's own code is compiled
  * without a sanitizer: it gets buffers that end at an unreadable page, and the bytes before them are looked at. */
@@ -142,6 +142,18 @@ static void count_marks(size_t n) {
   for (size_t i = 0; i < n; i++) hold_marks[*(ends[MARKS] - n + i)]++;
 }
 
+/* Both asked only whether and where the file races. */
+static const char *hold_race(const uint8_t *file, size_t n) {
+  uint8_t *copy = heap(n);
+  if (n > 0) memcpy(copy, file, n);
+  uint64_t plains = plain_race(copy, n);
+  free(copy);
+  if (n > 0) memcpy(file_end - n, file, n);
+  uint64_t ours = ferrulique_race(n == 0 ? NULL : file_end - n, n);
+  if (ours != plains) return "the races differ";
+  return n > 0 && memcmp(file_end - n, file, n) != 0 ? "the file was changed" : NULL;
+}
+
 const char *hold(const uint8_t *file, size_t n) {
   static const size_t none[BUFFERS] = {0, 0, 0};
   size_t need[BUFFERS], longer[BUFFERS];
@@ -149,7 +161,8 @@ const char *hold(const uint8_t *file, size_t n) {
   fence_all();
   needs(need, file, n);
   for (int b = 0; b < BUFFERS; b++) longer[b] = need[b] + SPARE;
-  const char *wrong = hold_lengths(&code, file, n, longer);
+  const char *wrong = hold_race(file, n);
+  if (wrong == NULL) wrong = hold_lengths(&code, file, n, longer);
   if (wrong == NULL) wrong = hold_lengths(&ignored, file, n, none);
   if (wrong != NULL || code != FERRULIQUE_RAN) return wrong;
   wrong = hold_lengths(&code, file, n, need);

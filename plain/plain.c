@@ -1,4 +1,5 @@
-/* The machine in plain C, written for speed from the description of the run file: same codes, marks, bytes and report as ferrulique_run.
+/* The machine in plain C, written for speed from the description of the run file: same codes, marks, bytes and report as ferrulique_run, and the same
+ * answer as ferrulique_race.
  *
  * Happens-before is kept as one number for each core. With two cores, an action of the other core happens before core c's next action exactly
  * when its entry is at most `known`, the largest entry of a release store that c has read by an acquire load.
@@ -6,6 +7,9 @@
 #include "plain.h"
 
 enum { SLOTS = FERRULIQUE_MOST_SLOTS, STORES = 256, PRODUCER = 0, CONSUMER = 1 };
+
+/* What both questions call for every entry is compiled into each of them: the one about races moves no byte. */
+#define INTO_BOTH static inline __attribute__((always_inline))
 
 enum phase { OWN_LOAD, FOREIGN_LOAD, DATA_ACCESS, INDEX_STORE };
 
@@ -94,14 +98,14 @@ static void fresh(struct machine *s, const struct layout *l, const uint8_t *file
 }
 
 /* By how much room, (cached + lead - own) mod M, is below the batch size. Each of the three is below M, and so the sum is off by M at most once. */
-static inline uint32_t shortfall(const struct machine *s, const struct core *c) {
+INTO_BOTH uint32_t shortfall(const struct machine *s, const struct core *c) {
   int32_t room = (int32_t)(c->cached + c->lead) - (int32_t)c->own, modulus = (int32_t)s->modulus;
   if (room < 0) room += modulus;
   if (room >= modulus) room -= modulus;
   return (uint32_t)room < c->size ? c->size - (uint32_t)room : 0;
 }
 
-static inline uint8_t own_load(struct machine *s, struct core *c) {
+INTO_BOTH uint8_t own_load(struct machine *s, struct core *c) {
   c->size = c->left = *c->size_at;
   c->phase = shortfall(s, c) != 0 ? FOREIGN_LOAD : c->size != 0 ? DATA_ACCESS : INDEX_STORE;
   return FERRULIQUE_OWN_LOADED;
@@ -109,7 +113,7 @@ static inline uint8_t own_load(struct machine *s, struct core *c) {
 
 /* A store is hidden where this core has read a later one. Axiom 2 asks no more: a later store happens before the load only where this core has
  * acquired, and so read, that one or one after it. */
-static inline uint8_t foreign_load(struct machine *s, uint32_t who, uint32_t age) {
+INTO_BOTH uint8_t foreign_load(struct machine *s, uint32_t who, uint32_t age) {
   struct core *c = &s->core[who];
   const struct core *other = &s->core[1 - who];
   if (age >= other->stores) return FERRULIQUE_PAST_INITIAL;
@@ -131,35 +135,36 @@ static inline uint8_t foreign_load(struct machine *s, uint32_t who, uint32_t age
   return FERRULIQUE_BATCH_FAILED;
 }
 
-static inline void byte_moved(const struct machine *s, struct core *c) {
+INTO_BOTH void byte_moved(const struct machine *s, struct core *c) {
   if (++c->slot == s->m) c->slot = 0;
   if (--c->left == 0) c->phase = INDEX_STORE;
 }
 
-static inline uint8_t raced(struct machine *s, uint32_t entry, uint32_t partner) {
+INTO_BOTH uint8_t raced(struct machine *s, uint32_t entry, uint32_t partner) {
   s->race = entry;
   s->partner = partner;
   return FERRULIQUE_RACED;
 }
 
-static inline uint8_t data_access(struct machine *s, uint32_t who, uint32_t entry) {
+/* `bytes` says whether bytes are moved, or only the accesses looked at. */
+INTO_BOTH uint8_t data_access(struct machine *s, uint32_t who, uint32_t entry, int bytes) {
   struct core *c = &s->core[who];
   uint32_t k = c->slot;
   if (who == PRODUCER) {
     if (s->loaded[k] > c->known) return raced(s, entry, s->loaded[k]);
-    s->byte[k] = *s->push++;
+    if (bytes) s->byte[k] = *s->push++;
     s->stored[k] = (uint16_t)entry;
     byte_moved(s, c);
     return FERRULIQUE_DATA_STORED;
   }
   if (s->stored[k] > c->known) return raced(s, entry, s->stored[k]);
-  *s->out++ = s->byte[k];
+  if (bytes) *s->out++ = s->byte[k];
   s->loaded[k] = (uint16_t)entry;
   byte_moved(s, c);
   return FERRULIQUE_DATA_LOADED;
 }
 
-static inline uint8_t index_store(const struct machine *s, struct core *c, uint32_t entry) {
+INTO_BOTH uint8_t index_store(const struct machine *s, struct core *c, uint32_t entry) {
   c->own += c->size;
   if (c->own >= s->modulus) c->own -= s->modulus;
   c->value[c->stores] = (uint16_t)c->own;
@@ -171,13 +176,13 @@ static inline uint8_t index_store(const struct machine *s, struct core *c, uint3
 }
 
 /* One entry while the machine runs: its mark. */
-static inline uint8_t step(struct machine *s, uint32_t who, uint32_t age, uint32_t entry) {
+INTO_BOTH uint8_t step(struct machine *s, uint32_t who, uint32_t age, uint32_t entry, int bytes) {
   if (who > 1) return FERRULIQUE_NO_SUCH_CORE;
   struct core *c = &s->core[who];
   if (c->size_at == c->sizes_end) return FERRULIQUE_NO_BATCH_LEFT;
   if (c->phase == FOREIGN_LOAD) return foreign_load(s, who, age);
   if (age != 0) return FERRULIQUE_NO_AGE_HERE;
-  if (c->phase == DATA_ACCESS) return data_access(s, who, entry);
+  if (c->phase == DATA_ACCESS) return data_access(s, who, entry, bytes);
   if (c->phase == OWN_LOAD) return own_load(s, c);
   return index_store(s, c, entry);
 }
@@ -187,7 +192,7 @@ static uint32_t play(struct machine *s, const struct layout *l, uint8_t *marks) 
   uint32_t performed = 0, n = (uint32_t)l->entries, i = 0;
   const uint8_t *at = l->schedule;
   for (; i < n && s->race == 0; i++, at += 2) {
-    uint8_t mark = step(s, at[0], at[1], i + 1);
+    uint8_t mark = step(s, at[0], at[1], i + 1, 1);
     marks[i] = mark;
     performed += mark <= FERRULIQUE_RACED;
   }
@@ -228,4 +233,15 @@ uint32_t plain_run(const uint8_t *file, size_t file_len, uint8_t *marks, size_t 
   uint32_t performed = play(&s, &l, marks);
   put_report(report, &s, performed, l.entries, (size_t)(s.out - out));
   return FERRULIQUE_RAN;
+}
+
+uint64_t plain_race(const uint8_t *file, size_t file_len) {
+  struct layout l;
+  uint32_t code = read_layout(&l, file, file_len);
+  if (code != FERRULIQUE_RAN) return code;
+  struct machine s;
+  fresh(&s, &l, file, NULL);
+  const uint8_t *at = l.schedule;
+  for (uint32_t i = 0; i < l.entries && s.race == 0; i++, at += 2) step(&s, at[0], at[1], i + 1, 0);
+  return (uint64_t)s.race << 8 | (uint64_t)s.partner << 32;
 }

@@ -1,4 +1,4 @@
-/* The same call as ferrulique_run, in plain C: what the library is timed beside and compared with. */
+/* The same calls as ferrulique_run and ferrulique_race, in plain C: what the library is timed beside and compared with. */
 #ifndef PLAIN_H
 #define PLAIN_H
 
@@ -6,5 +6,7 @@
 
 uint32_t plain_run(const uint8_t *file, size_t file_len, uint8_t *marks, size_t marks_len, uint8_t *out, size_t out_len, uint8_t *report,
                    size_t report_len);
+
+uint64_t plain_race(const uint8_t *file, size_t file_len);
 
 #endif
