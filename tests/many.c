@@ -11,7 +11,7 @@
 #include <string.h>
 #include <unistd.h>
 
-enum { MOST_WORDS = 1024 };
+enum { MOST_WORDS = 8192 };
 
 int program_main(int argc, char **argv);
 
