@@ -4,6 +4,7 @@ use crate::file::{read, Lent, MOST_BYTES, REPORT_BYTES};
 use crate::lend::{needs, Lending, MOST_MORE, NAMES};
 use crate::library;
 use crate::print::{Played, MOST_OUT};
+use crate::race::Race;
 use crate::system::{end_after, map_before_guard, NEVER};
 use std::io;
 
@@ -107,6 +108,18 @@ impl Desk {
     }
 }
 
+impl Desk {
+    /// Asks the library only whether and where a file races. Answers that, and whether the file is still the same.
+    fn race(&mut self, file: &[u8], null: bool) -> (u64, bool) {
+        let lent = &mut self.file.last(file.len())[MARGIN..];
+        lent.copy_from_slice(file);
+        end_after(CALL_SECONDS);
+        let answer = library::race(lent, null);
+        end_after(NEVER);
+        (answer, lent == file)
+    }
+}
+
 /// The code that a file must get with these buffers, and what then stands at the start of each.
 pub struct Expected {
     pub code: u8,
@@ -169,6 +182,15 @@ pub fn differs(desk: &mut Desk, file: &[u8], played: &Played, lending: &Lending)
     let lent = lending.lent(needs(file));
     let there = desk.call(file, lending, lent);
     Expected::new(file, played, lent).difference(file, lending, &there)
+}
+
+/// Asks the library once only whether and where a file races, and answers the first difference, in words.
+pub fn race_differs(desk: &mut Desk, file: &[u8], played: &Played, null: bool) -> Option<String> {
+    let (answer, unchanged) = desk.race(file, null);
+    if !unchanged {
+        return Some("race: the file was changed".to_string());
+    }
+    Race::of(played).difference(answer)
 }
 
 #[cfg(test)]

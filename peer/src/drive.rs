@@ -1,6 +1,7 @@
-//! Made files through the library's C entry, each with four lendings of its buffers, in processes beside one another.
+//! Made files through the library's C entries, each with four lendings of its buffers and once asked only whether it races, in processes beside one
+//! another.
 
-use crate::desk::{differs, Desk};
+use crate::desk::{differs, race_differs, Desk};
 use crate::file::read;
 use crate::floors::{impossible, missed};
 use crate::found;
@@ -55,6 +56,14 @@ struct Job {
 unsafe impl Plain for Common {}
 unsafe impl Plain for Job {}
 
+/// The number of the call that asks only whether the file races: it comes after the four.
+const RACE_CALL: u64 = 4;
+
+/// Whether that call lends an empty file as a null pointer: as the first of the four does.
+fn race_null(lendings: &[Lending; 4]) -> bool {
+    lendings[0].null
+}
+
 /// The four lendings of a file: drawn apart from the file itself, so that `make` alone gives the file back.
 fn lendings_of(seed: u64, number: u64) -> [Lending; 4] {
     lendings(&mut Random::new(!seed, number))
@@ -90,7 +99,7 @@ fn compared(jobs: &[Shared<Job>]) -> u64 {
 }
 
 impl Drive {
-    /// One file: true where all four answers are the same.
+    /// One file: true where all five answers are the same.
     fn one(&self, number: u64, desk: &mut Desk, job: &Job, tally: &mut Tally) -> bool {
         let file = make(self.seed, number);
         let played = play(&file);
@@ -101,6 +110,11 @@ impl Drive {
                 return false;
             }
         }
+        job.call.store(RACE_CALL, Ordering::Relaxed);
+        if race_differs(desk, &file, &played, race_null(&lendings)).is_some() {
+            return false;
+        }
+        tally.race.count(&file, &played);
         let codes = lendings.map(|lending| count_call(tally, &file, &lending));
         tally.count(&file, &played, &codes);
         true
@@ -133,16 +147,20 @@ impl Drive {
 
     fn show(&self, job: &Job, end: End, right: u64) -> io::Result<()> {
         let number = job.number.load(Ordering::Relaxed);
-        let call = job.call.load(Ordering::Relaxed) as usize;
+        let call = job.call.load(Ordering::Relaxed);
         let (seed, ending) = (self.seed, found::ending(end));
         println!("seed {seed}, file {number}, call {call}, after {right} files that were right: {ending}");
         if !matches!(end, End::Exit(found::DIFFERENT) | End::Signal(_)) {
             println!("the comparison itself has failed, not the library");
             return Ok(());
         }
-        let lending = lendings_of(self.seed, number)[call];
+        let lendings = lendings_of(self.seed, number);
         let name = format!("{}-{number}", self.seed);
-        found::show(&name, make(self.seed, number), &lending, &self.save)
+        let file = make(self.seed, number);
+        if call == RACE_CALL {
+            return found::show_race(&name, file, race_null(&lendings), &self.save);
+        }
+        found::show(&name, file, &lendings[call as usize], &self.save)
     }
 
     /// True where every answer was the same and no floor was missed.

@@ -105,6 +105,14 @@ fn floors(tally: &Tally) -> Vec<Floor> {
             EACH,
         );
     }
+    for (code, &files) in tally.race.codes.iter().enumerate() {
+        let what = format!("code {code} where it is asked only whether a file races");
+        each(what, files, EACH);
+    }
+    for (name, files) in ["producer", "consumer"].iter().zip(tally.race.by) {
+        each(format!("a race of the {name}'s"), files, EACH);
+    }
+    each("a lawful file without a race".into(), tally.race.none, EACH);
     for (pointer, calls) in ["its address", "a null pointer"].iter().zip(tally.empty) {
         each(
             format!("a call with an empty buffer lent as {pointer}"),

@@ -1,8 +1,9 @@
 //! A file on which the library's answer is another, or on which it ended by a signal: made small, shown and saved.
 
-use crate::desk::{Desk, Expected, CALL_SECONDS};
+use crate::desk::{race_differs, Desk, Expected, CALL_SECONDS};
 use crate::lend::{needs, Lending};
 use crate::print::{numbers, play, Played};
+use crate::race::Race;
 use crate::smaller::smaller;
 use crate::system::{start, End, ALARM};
 use std::io::{self, Write};
@@ -82,6 +83,37 @@ pub fn show(name: &str, file: Vec<u8>, lending: &Lending, folder: &Path) -> io::
     );
     println!("with buffers long enough, here:\n{}", play(&file).text());
     let end = apart(&file, lending, true)?;
+    println!("the call: {}", ending(end));
+    save(folder, &format!("difference-{name}.run"), &file)
+}
+
+/// Asks the library in a process of its own only whether the file races; with `tell`, that process prints in what the answer is another.
+fn race_apart(file: &[u8], null: bool, tell: bool) -> io::Result<End> {
+    start(|| {
+        let mut desk = Desk::new().expect("memory for the file");
+        let difference = race_differs(&mut desk, file, &play(file), null);
+        if tell {
+            println!("different: {}", difference.as_deref().unwrap_or("nothing"));
+            let _ = io::stdout().flush();
+        }
+        u8::from(difference.is_some()) * DIFFERENT
+    })?
+    .wait()
+}
+
+/// The same as `show`, for the question that asks only whether the file races.
+pub fn show_race(name: &str, file: Vec<u8>, null: bool, folder: &Path) -> io::Result<()> {
+    save(folder, &format!("difference-{name}-whole.run"), &file)?;
+    let stays = |less: &[u8]| !matches!(race_apart(less, null, false), Ok(End::Exit(0)));
+    let file = smaller(file, SMALLER_TRIES, stays);
+    println!("made small: {}", hex(&file));
+    let played = play(&file);
+    println!(
+        "asked only whether it races, here: {}\n{}",
+        Race::of(&played),
+        played.text()
+    );
+    let end = race_apart(&file, null, true)?;
     println!("the call: {}", ending(end));
     save(folder, &format!("difference-{name}.run"), &file)
 }

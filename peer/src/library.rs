@@ -1,4 +1,4 @@
-//! The library's C entry, as its header declares it.
+//! The library's C entries, as its header declares them.
 
 extern "C" {
     fn ferrulique_run(
@@ -11,6 +11,7 @@ extern "C" {
         report: *mut u8,
         report_len: usize,
     ) -> u32;
+    fn ferrulique_race(file: *const u8, file_len: usize) -> u64;
 }
 
 /// The address to lend: null for an empty buffer where `null` says so.
@@ -37,4 +38,10 @@ pub fn run(file: &mut [u8], [marks, out, report]: [&mut [u8]; 3], null: bool) ->
             report.len(),
         )
     }
+}
+
+/// Asks the library only whether and where the file races. With `null`, an empty file is lent as a null pointer.
+pub fn race(file: &mut [u8], null: bool) -> u64 {
+    // SAFETY: the pointer is good for the length beside it.
+    unsafe { ferrulique_race(address(file, null), file.len()) }
 }

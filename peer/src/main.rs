@@ -29,6 +29,8 @@ mod library;
 #[cfg(feature = "library")]
 mod pool;
 #[cfg(feature = "library")]
+mod race;
+#[cfg(feature = "library")]
 mod shared;
 #[cfg(feature = "library")]
 mod system;

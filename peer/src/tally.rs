@@ -4,6 +4,8 @@ use crate::actions::Hidden;
 use crate::file::{MOST_BYTES, MOST_MODULUS, MOST_SLOTS, REPORT_BYTES};
 use crate::machine::{largest, performed, refused, report, Shortfall, CONSUMER, PRODUCER};
 use crate::print::Played;
+#[cfg(feature = "library")]
+use crate::race::Races;
 use std::fmt;
 
 pub const CODES: usize = 12;
@@ -68,6 +70,9 @@ pub struct Tally {
     most_entries: u64,
     /// Foreign loads performed at an age other than 0.
     stale_loads: u64,
+    /// What the library was asked alone, whether the file races.
+    #[cfg(feature = "library")]
+    pub race: Races,
 }
 
 /// The marks that there are.
@@ -111,6 +116,8 @@ impl Tally {
             empty: [0; 2],
             most_entries: 0,
             stale_loads: 0,
+            #[cfg(feature = "library")]
+            race: Races::default(),
         }
     }
 
@@ -268,6 +275,7 @@ impl Tally {
         add(&mut self.empty, &more.empty);
         self.most_entries = self.most_entries.max(more.most_entries);
         self.stale_loads += more.stale_loads;
+        self.race.add(&more.race);
     }
 }
 
@@ -345,6 +353,9 @@ impl fmt::Display for Tally {
             to,
             "calls {calls}; by short buffers (marks 1, out 2, report 4) {short:?}; a report alone one short {less}, just enough {enough}; \
             with an empty one {address}, as a null pointer {null}"
-        )
+        )?;
+        #[cfg(feature = "library")]
+        writeln!(to, "{}", self.race)?;
+        Ok(())
     }
 }

@@ -1,5 +1,5 @@
 
-; The C entry over the crate's own function, which takes each slice as the address of a pair: where it lies, and its length.
+; The C entries over the crate's own functions, which take each slice as the address of a pair: where it lies, and its length.
 define i32 @ferrulique_run(ptr %file, i64 %file_len, ptr %marks, i64 %marks_len, ptr %out, i64 %out_len, ptr %report, i64 %report_len) {
   %a = alloca { ptr, i64 }
   %a.len = getelementptr { ptr, i64 }, ptr %a, i32 0, i32 1
@@ -19,4 +19,13 @@ define i32 @ferrulique_run(ptr %file, i64 %file_len, ptr %marks, i64 %marks_len,
   store i64 %report_len, ptr %d.len
   %code = call i32 @"ring::ferrulique_run"(ptr %a, ptr %b, ptr %c, ptr %d)
   ret i32 %code
+}
+
+define i64 @ferrulique_race(ptr %file, i64 %file_len) {
+  %a = alloca { ptr, i64 }
+  %a.len = getelementptr { ptr, i64 }, ptr %a, i32 0, i32 1
+  store ptr %file, ptr %a
+  store i64 %file_len, ptr %a.len
+  %answer = call i64 @"ring::ferrulique_race"(ptr %a)
+  ret i64 %answer
 }

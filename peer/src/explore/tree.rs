@@ -3,7 +3,9 @@
 use super::answer::{ask, Answer};
 use crate::actions::Hidden;
 use crate::file::{Entry, RunFile, MOST_ORDERS};
+use crate::library;
 use crate::machine::{performed, refused, report, Machine};
+use crate::race::Race;
 use std::collections::HashMap;
 use std::fmt;
 
@@ -157,6 +159,14 @@ impl<'f> Tree<'f> {
         self.looked.entries += marks.len() as u64;
         if answer != answered(machine, marks.to_vec()) {
             return Err(self.wrong("the peer's answer is another"));
+        }
+        let race = Race {
+            code: 0,
+            entry: answer.numbers[report::RACE],
+            partner: answer.numbers[report::RACE_PARTNER],
+        };
+        if let Some(why) = race.difference(library::race(&mut self.bytes, false)) {
+            return Err(self.wrong(&format!("another answer: {why}")));
         }
         if self.file.orders == MOST_ORDERS && answer != self.without_coherence() {
             return Err(self.wrong("with strong orders, the answer without coherence is another"));
