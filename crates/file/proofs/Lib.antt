@@ -1,4 +1,5 @@
 -- The crate's laws and proofs, file by file.
+pub mod Pairs
 pub mod Rows
-pub mod Sums
 pub mod Sizes
+pub mod Sums

@@ -11,7 +11,8 @@ ghost use mathlib.Core.Bool.{_||_, not};
 ghost use Prim.Native.Nat.{_<_};
 ghost use lib.Dec.{eqb, ltb};
 ghost use Rattle.model.specs.Limits.{mostSlots, leastModulus, mostModulus};
-ghost use Rattle.model.specs.Codes.{divides, fileCode, codeOf};
+ghost use Rattle.model.specs.Codes.{divides, ringTable, firstOf, fileCode, codeOf};
+ghost use Rattle.file.specs.Ends.{endTable};
 
 // The code of a file alone, for which no buffer is lent: 0, or 1 to 8.
 pub fn file_code(file: &[u8]) -> u32
@@ -24,6 +25,17 @@ pub fn file_code(file: &[u8]) -> u32
     if Limits::FILE < n {
         return 2;
     }
+    let ring = ring_code(file);
+    if ring != 0 {
+        return ring;
+    }
+    end_code(n, sizes_end(file), schedule_at(file))
+}
+
+// The code of a ring's eight bytes, which are the first of these: 0, or 3 to 6.
+pub(crate) fn ring_code(file: &[u8]) -> u32
+    ensures { λ r. ⌜ r ≡ firstOf (ringTable (now (file .entry))) ⌝ }
+{
     let m = ring_size(file);
     if bad_size(m) {
         return 3;
@@ -38,10 +50,16 @@ pub fn file_code(file: &[u8]) -> u32
     if Limits::ORDERS < order_bits(file) {
         return 6;
     }
-    if n < sizes_end(file) {
+    0
+}
+
+// The code of a file of n bytes whose sizes end here and whose schedule begins there: 0, 7 or 8.
+pub(crate) fn end_code(n: usize, sizes: usize, at: usize) -> u32
+    ensures { λ r. ⌜ r ≡ firstOf (endTable n sizes at) ⌝ }
+{
+    if n < sizes {
         return 7;
     }
-    let at = schedule_at(file);
     if n < at {
         return 7;
     }

@@ -13,8 +13,10 @@ impl Limits {
     // The order bits are at most this.
     pub const ORDERS: u16 = 15;
 
-    // A run file has this many bytes before its batch sizes, and at most this many in all.
+    // A run file has this many bytes before its batch sizes, a pair's file this many, and either at most this many in all.
     pub const HEADER: usize = 8;
+
+    pub const PAIR_HEADER: usize = 16;
 
     pub const FILE: usize = 65536;
 

@@ -98,7 +98,7 @@ pub fn pop_total(file: &[u8]) -> usize
 }
 
 // The sum of as many of n bytes as the file has.
-fn sum_within(file: &[u8], from: usize, n: usize) -> usize
+pub(crate) fn sum_within(file: &[u8], from: usize, n: usize) -> usize
     requires { ⌜ n < 256 ⌝ }
     ensures { λ r. ⌜ (r ≡ total (take n (drop from (now (file .entry))))) × (r ≤ 255 * 255) ⌝ }
 {
@@ -127,7 +127,7 @@ fn sum_of(file: &[u8], from: usize, n: usize) -> usize
 }
 
 // A byte as a count.
-fn wide(x: u8) -> u16
+pub(crate) fn wide(x: u8) -> u16
     ensures { λ r. ⌜ (r ≡ x) × (r < 256) ⌝ }
 {
     x as u16

@@ -1,0 +1,3 @@
+-- The crate's definitions, file by file.
+pub mod Ends
+pub mod Layout
