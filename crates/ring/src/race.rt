@@ -6,6 +6,11 @@ ghost use mathlib.Core.Path.{_≡_};
 ghost use Rattle.model.specs.RaceAnswer.{RaceAnswer};
 ghost use Rattle.ring.specs.Raced.{codeIn, entryIn, partnerIn, packedOf};
 
+// Where the two numbers begin in the one that a C host is handed: at bit 8, and at bit 32.
+const ENTRY: u64 = 256;
+
+const PARTNER: u64 = 4294967296;
+
 // A file was refused, with its code; or it was run, and this entry raced with this partner, both 0 where none did.
 pub enum Raced {
     Refused(u32),
@@ -34,6 +39,6 @@ pub(crate) fn packed(answer: Raced) -> u64
 {
     match answer {
         Raced::Refused(code) => code as u64,
-        Raced::Ran(entry, partner) => 256 * (entry as u64 + 16777216 * partner as u64),
+        Raced::Ran(entry, partner) => ENTRY * entry as u64 + PARTNER * partner as u64,
     }
 }

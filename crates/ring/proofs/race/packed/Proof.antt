@@ -16,17 +16,17 @@ enum-known-answer-2 c = search needs
 cast-result-2 : tie.Need-cast-result-2
 cast-result-2 c = search needs
 
-cast-result-3 : tie.Need-cast-result-3
-cast-result-3 c = search needs
-
 mul-result : tie.Need-mul-result
 mul-result c = search needs
 
-add-result : tie.Need-add-result
-add-result c = search needs
+cast-result-3 : tie.Need-cast-result-3
+cast-result-3 c = search needs
 
 mul-result-2 : tie.Need-mul-result-2
 mul-result-2 c = search needs
+
+add-result : tie.Need-add-result
+add-result c = search needs
 
 returns : tie.Need-returns
 returns c = rw (c .before .answer .given .1) (omega arith)
@@ -42,9 +42,9 @@ packed-spec =
     cast-result
     enum-known-answer-2
     cast-result-2
-    cast-result-3
     mul-result
-    add-result
+    cast-result-3
     mul-result-2
+    add-result
     returns
     returns-2)
