@@ -120,11 +120,16 @@ static void no_such_core(struct run *r) {
   fill(r, 2, 0);
 }
 
-/* A byte is pushed and popped with back's store relaxed: the pop races, and every entry after it is refused. */
-static void halted(struct run *r) {
+/* A byte is pushed and popped with back's store relaxed: the pop races. */
+static void raced(struct run *r) {
   begin(r, BACK_RELAXED, 1, 1, 1, 1);
   entries(r, 3, 0, 0);
   entries(r, 3, 1, 0);
+}
+
+/* Every entry after the race is refused. */
+static void halted(struct run *r) {
+  raced(r);
   fill(r, 0, 0);
 }
 
@@ -199,6 +204,15 @@ const struct bench_case bench_cases[] = {
 };
 
 const size_t bench_case_count = sizeof bench_cases / sizeof bench_cases[0];
+
+const struct bench_case bench_races[] = {
+    {"race-turns", "no race, all entries performed, one core after the other", one_after_the_other, 0},
+    {"race-mix", "no race, random mix", random_mix, 0},
+    {"race-first", "a race at entry 6, every entry after it refused", halted, 0},
+    {"race-six", "a race at entry 6, the last", raced, 0},
+};
+
+const size_t bench_race_count = sizeof bench_races / sizeof bench_races[0];
 
 size_t entries_in(const struct run *r) {
   size_t at = FERRULIQUE_HEADER_BYTES + r->file[6] + r->file[7];

@@ -19,6 +19,10 @@ struct bench_case {
 extern const struct bench_case bench_cases[];
 extern const size_t bench_case_count;
 
+/* The runs of which it is asked only whether and where they race. */
+extern const struct bench_case bench_races[];
+extern const size_t bench_race_count;
+
 /* One core after the other, cut to at most this many entries. */
 void in_turns(struct run *r, size_t entries);
 

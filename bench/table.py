@@ -21,8 +21,8 @@ def number(ns):
     return f"{ns:.2f}" if ns < 10 else f"{ns:.1f}" if ns < 100 else f"{ns:,.0f}"
 
 
-def case_row(case):
-    per = case.entries if case.by_entry() else 1
+def case_row(case, by_run=False):
+    per = case.entries if case.by_entry() and not by_run else 1
     return row(case.words, f"{case.entries:,}", number(case.library / per), number(case.plain / per), f"{case.ratio():.2f}")
 
 
@@ -32,6 +32,15 @@ def instructions_rows(times):
         for case in times.cases
         if case.key in times.instructions
         for entries, *counts in [times.instructions[case.key]]
+    ]
+
+
+def race_instructions_rows(times):
+    return [
+        row(case.words, *(f"{count:,}" for count in counts), f"{counts[0] / counts[1]:.2f}")
+        for case in times.races
+        if case.key in times.instructions
+        for _, *counts in [times.instructions[case.key]]
     ]
 
 
@@ -48,11 +57,14 @@ def lines(times):
     heads = ("library, ns", "plain C, ns", "ratio")
     out += table(("for an entry", "entries", *heads), [case_row(c) for c in times.cases if c.by_entry()])
     out += table(("for a run", "entries", *heads), [case_row(c) for c in times.cases if not c.by_entry()])
+    out += table(("a run of which it is only asked whether it races", "entries", *heads), [case_row(c, by_run=True) for c in times.races])
     grown = [row(f"{int(n):,}", number(a), number(b), f"{a / b:.2f}") for n, a, b in times.growth[::GROWTH_ROWS_APART]]
     out += table(("a run of this many entries, one core after the other", *heads), grown)
     out += table(("instructions for an entry", "library", "plain C", "ratio"), instructions_rows(times))
+    out += table(("instructions for a run of which it is only asked whether it races", "library", "plain C", "ratio"), race_instructions_rows(times))
     out += table(("copied by the library at an entry with mark", "calls of memcpy", "bytes"), copies_rows(times.copies))
-    out += table(("stack", "library", "plain C"), [row("bytes, from the return address down", *(f"{n:,}" for n in times.stack))])
+    stack = [row(f"`ferrulique_{question}`: bytes, from the return address down", *(f"{n:,}" for n in sizes)) for question, sizes in times.stack.items()]
+    out += table(("stack", "library", "plain C"), stack)
     return "\n".join(out)
 
 

@@ -24,21 +24,21 @@ class Times:
     """Of a case that several processes have timed, the least times."""
 
     def __init__(self, path):
-        by_key, grown = {}, {}
-        self.copies, self.instructions, self.stack = [], {}, None
+        by_key, raced, grown = {}, {}, {}
+        self.copies, self.instructions, self.stack = [], {}, {}
         self.notes = {}
         with open(path, encoding="utf-8") as lines:
             for line in lines:
                 kind, rest = line.rstrip("\n").split(" ", 1)
-                if kind == "case":
+                if kind in ("case", "race"):
                     case = Case(*rest.split(" "))
-                    by_key.setdefault(case.key, case).least(case)
+                    (by_key if kind == "case" else raced).setdefault(case.key, case).least(case)
                 elif kind == "grow":
                     entries, *times = (float(x) for x in rest.split())
                     grown[entries] = [min(pair) for pair in zip(times, grown.get(entries, times))]
                 else:
                     self.take(kind, rest)
-        self.cases = list(by_key.values())
+        self.cases, self.races = list(by_key.values()), list(raced.values())
         self.growth = [(entries, *times) for entries, times in grown.items()]
 
     def take(self, kind, rest):
@@ -48,7 +48,8 @@ class Times:
             key, *counts = rest.split()
             self.instructions[key] = tuple(int(x) for x in counts)
         elif kind == "stack":
-            self.stack = tuple(int(x) for x in rest.split())
+            question, *sizes = rest.split()
+            self.stack[question] = tuple(int(x) for x in sizes)
         else:
             self.notes[kind] = rest
 
