@@ -2,7 +2,6 @@
 // read, and a number that does not fit is not written.
 ghost use mathlib.Core.Path.{_≡_};
 ghost use Prim.Native.Nat.{_%_, _<_};
-ghost use lib.ListN.{set};
 ghost use Rattle.model.specs.File.{byteAt, number4};
 ghost use Rattle.little.specs.Little.{put4Of};
 
@@ -14,15 +13,6 @@ pub fn byte_at(bytes: &[u8], at: usize) -> u8
         return bytes[at];
     }
     0
-}
-
-// A byte at a place, where there is one.
-pub fn put1(bytes: &mut [u8], at: usize, x: u8)
-    ensures { λ _. ⌜ now (bytes .exit) ≡ set (now (bytes .entry)) at x ⌝ }
-{
-    if at < bytes.len() {
-        bytes[at] = x;
-    }
 }
 
 // The number in the four bytes from a place on.

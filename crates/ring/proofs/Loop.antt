@@ -97,8 +97,8 @@ byte-put : (q q′ out out₀ : List ℕ) (k v : ℕ) → out ≡ q ++ drop k ou
     → set out k v ≡ q′ ++ drop (k + 1) out₀
 byte-put q q′ out out₀ k v e ek eq h = ap (λ (l : List ℕ). set l k v) e ∙ put-next q out₀ k v (sym ek) h ∙ rw eq refl
 
--- After i entries: the ring, the entries performed, the place in out, and the two buffers, where they are long enough.
-pub record Going (f : List ℕ) (marks₀ out₀ marks out : List ℕ) (s : Ring) (performed k i : ℕ) : Type 0 where
+-- After i entries: the ring, the entries performed, the place in out, and the two buffers, where each mark and each byte has its own place.
+pub record Going (f : List ℕ) (each : ℕ) (marks₀ out₀ marks out : List ℕ) (s : Ring) (performed k i : ℕ) : Type 0 where
   pub rep : Rep (siteOf f) s (here (endTo f i) firstRing) (resultsTo f i)
   pub halted-is : endTo f i .halted ≡ not (eqb (s .race) 0)
   pub race-is : s .race ≡ raceFrom 1 (resultsTo f i)
@@ -106,13 +106,13 @@ pub record Going (f : List ℕ) (marks₀ out₀ marks out : List ℕ) (s : Ring
   pub inside : i ≤ length (scheduleOf f)
   pub marks-same : length marks ≡ length marks₀
   pub out-same : length out ≡ length out₀
-  pub marks-are : length (scheduleOf f) ≤ length marks₀ → marks ≡ marksOf (resultsTo f i) ++ drop i marks₀
-  pub out-is : total (popSizes f) ≤ length out₀ → out ≡ endTo f i .queue firstRing .out ++ drop k out₀
+  pub marks-are : each ≡ 1 → marks ≡ marksOf (resultsTo f i) ++ drop i marks₀
+  pub out-is : each ≡ 1 → out ≡ endTo f i .queue firstRing .out ++ drop k out₀
   pub place-is : k ≡ length (endTo f i .queue firstRing .out)
   pub performed-is : performed ≡ count entryPerformed (resultsTo f i)
 
-pub going-none : {f : List ℕ} → Good f → (marks out : List ℕ) → Going f marks out marks out (freshOf f) 0 0 0
-going-none g marks out = record {
+pub going-none : {f : List ℕ} → Good f → (each : ℕ) (marks out : List ℕ) → Going f each marks out marks out (freshOf f) 0 0 0
+going-none g each marks out = record {
   rep = fresh-rep (g .fit);
   halted-is = refl;
   race-is = refl;
@@ -130,18 +130,20 @@ marks-length : (f : List ℕ) (i : ℕ) → i ≤ length (scheduleOf f) → leng
 marks-length f i h =
     length-map (resultsTo f i) (λ (x : Result). x .mark) ∙ results-length (shapeOf f) (fresh f) (take i (scheduleOf f)) ∙ length-take-le i (scheduleOf f) h
 
-pub tried : {f marks₀ out₀ marks out : List ℕ} {s : Ring} {performed k i : ℕ} → Going f marks₀ out₀ marks out s performed k i → length (resultsTo f i) ≡ i
+pub tried : {f : List ℕ} {each : ℕ} {marks₀ out₀ marks out : List ℕ} {s : Ring} {performed k i : ℕ} → Going f each marks₀ out₀ marks out s performed k i → length (resultsTo f i) ≡ i
 tried {f} {i = i} z = results-length (shapeOf f) (fresh f) (take i (scheduleOf f)) ∙ length-take-le i (scheduleOf f) (z .inside)
 
 pub marks-more : (xs : List Result) (x : Result) → marksOf (xs ++ (x ∷ [])) ≡ marksOf xs ++ (x .mark ∷ [])
 marks-more [] x = refl
 marks-more (y ∷ xs) x = ap (λ (l : List ℕ). y .mark ∷ l) (marks-more xs x)
 
-pub out-long : {f : List ℕ} → Good f → {marks₀ out₀ marks out : List ℕ} {s : Ring} {performed k i : ℕ} → Going f marks₀ out₀ marks out s performed k i
+pub out-long : {f : List ℕ} → Good f → {each : ℕ} {marks₀ out₀ marks out : List ℕ} {s : Ring} {performed k i : ℕ} → Going f each marks₀ out₀ marks out s performed k i
     → k ≤ total (popSizes f)
 out-long g z = omega (arith, z .place-is, out-bound (z .rep))
 
-module _ {f : List ℕ} (g : Good f) {marks₀ out₀ marks out : List ℕ} {s : Ring} {performed k i : ℕ} (z : Going f marks₀ out₀ marks out s performed k i) where
+module _ {f : List ℕ} (g : Good f) {each : ℕ} {marks₀ out₀ marks out : List ℕ} {s : Ring} {performed k i : ℕ}
+    (z : Going f each marks₀ out₀ marks out s performed k i) (fit : (j : ℕ) → j < length (scheduleOf f) → j * each < length marks₀)
+    (fits : (j : ℕ) → j < total (popSizes f) → j * each < length out₀) where
   pub performed-le : performed ≤ i
   performed-le =
       let e = performed-and-refused (resultsTo f i) in
@@ -157,23 +159,23 @@ module _ {f : List ℕ} (g : Good f) {marks₀ out₀ marks out : List ℕ} {s :
         ∙ ap (λ (e : Entry). after (endTo f i) (step (shapeOf f) (endTo f i) e)) (entry-is g i more)
 
     -- One mark more.
-    mark-put : (x : Result) (v : ℕ) → x .mark ≡ v → length (scheduleOf f) ≤ length marks₀
-        → set marks i v ≡ marksOf (resultsTo f i ++ (x ∷ [])) ++ drop (i + 1) marks₀
-    mark-put x v e fit =
-        ap (λ (l : List ℕ). set l i v) (z .marks-are fit)
-        ∙ put-next (marksOf (resultsTo f i)) marks₀ i v (marks-length f i (z .inside)) (omega arith)
-        ∙ ap (λ (l : List ℕ). l ++ drop (i + 1) marks₀) (sym (marks-more (resultsTo f i) x ∙ ap (λ (n : ℕ). marksOf (resultsTo f i) ++ (n ∷ [])) e))
+    mark-put : (x : Result) (v : ℕ) → x .mark ≡ v → each ≡ 1 → set marks (i * each) v ≡ marksOf (resultsTo f i ++ (x ∷ [])) ++ drop (i + 1) marks₀
+    mark-put x v e own =
+        let at : i * each ≡ i = rw own (omega arith) in
+        rw at (ap (λ (l : List ℕ). set l i v) (z .marks-are own)
+        ∙ put-next (marksOf (resultsTo f i)) marks₀ i v (marks-length f i (z .inside)) (omega (arith, fit i more, at))
+        ∙ ap (λ (l : List ℕ). l ++ drop (i + 1) marks₀) (sym (marks-more (resultsTo f i) x ∙ ap (λ (n : ℕ). marksOf (resultsTo f i) ++ (n ∷ [])) e)))
 
     -- A REFUSED ENTRY writes its mark, and that is all.
     pub going-refused : (mark : ℕ) → mark ≡ answer f s (byteAt f (scheduleAt f + 2 * i)) (byteAt f (scheduleAt f + (2 * i + 1))) → ¬ (mark ≡ 0)
-        → Going f marks₀ out₀ (set marks i mark) out s performed k (i + 1)
+        → Going f each marks₀ out₀ (set marks (i * each) mark) out s performed k (i + 1)
     going-refused mark e h = rw (add-one i) (go (verdict g (z .rep) (z .halted-is) (byteAt f (scheduleAt f + 2 * i)) (byteAt f (scheduleAt f + (2 * i + 1)))))
       where
         go : ((step (shapeOf f) (endTo f i) (entryAt f i) ≡ refused firstRing (endTo f i .queue firstRing) (answer f s (byteAt f (scheduleAt f + 2 * i)) (byteAt f (scheduleAt f + (2 * i + 1)))))
             × (noSuchCore ≤ answer f s (byteAt f (scheduleAt f + 2 * i)) (byteAt f (scheduleAt f + (2 * i + 1)))))
             ⊎ (GoesOne f s (endTo f i) (byteAt f (scheduleAt f + 2 * i)) (byteAt f (scheduleAt f + (2 * i + 1)))
             × (answer f s (byteAt f (scheduleAt f + 2 * i)) (byteAt f (scheduleAt f + (2 * i + 1))) ≡ 0))
-            → Going f marks₀ out₀ (set marks i mark) out s performed k (suc i)
+            → Going f each marks₀ out₀ (set marks (i * each) mark) out s performed k (suc i)
         go (inr w) = absurd (h (e ∙ w .1))
         go (inl w) =
             let x : Result = refused firstRing (endTo f i .queue firstRing) mark in
@@ -187,9 +189,9 @@ module _ {f : List ℕ} (g : Good f) {marks₀ out₀ marks out : List ℕ} {s :
               race-is = rw er (z .race-is ∙ sym (race-stays 1 (resultsTo f i) x (ne-eqb mark raceFound (λ q. omega arith)) .0));
               entries-are = rw ee (omega (arith, z .entries-are));
               inside = more;
-              marks-same = length-set marks i mark ∙ z .marks-same;
+              marks-same = length-set marks (i * each) mark ∙ z .marks-same;
               out-same = z .out-same;
-              marks-are = λ fit. rw (er, ← (add-one i)) (mark-put x mark refl fit);
+              marks-are = λ own. rw (er, ← (add-one i)) (mark-put x mark refl own);
               out-is = rw ee (z .out-is);
               place-is = rw ee (z .place-is);
               performed-is = rw er (z .performed-is ∙ sym (count-more entryPerformed (resultsTo f i) x ∙ rw (lt-leb mark raceFound (omega arith)) (omega arith)));
@@ -198,7 +200,7 @@ module _ {f : List ℕ} (g : Good f) {marks₀ out₀ marks out : List ℕ} {s :
     -- A PERFORMED ENTRY writes its mark and, where it is a data load, one byte.
     pub going-moved : {s′ : Ring}
         → Joined (siteOf f) s′ (here (endTo f i) firstRing) (resultsTo f i) (step (shapeOf f) (endTo f i) (entryAt f i))
-        → Going f marks₀ out₀ (set marks i (s′ .mark)) (putByte out k (s′ .mark) (s′ .byte)) s′ (performed + 1) (nextPlace k (s′ .mark)) (i + 1)
+        → Going f each marks₀ out₀ (set marks (i * each) (s′ .mark)) (putByte out (k * each) (s′ .mark) (s′ .byte)) s′ (performed + 1) (nextPlace k (s′ .mark)) (i + 1)
     going-moved {s′} j = rw (add-one i) (record {
       rep = rw (more-results, more-end) (rep-after (endTo f i) (step (shapeOf f) (endTo f i) (entryAt f i)) (j .of-ring) (j .rep));
       halted-is = rw more-end (halted-after (endTo f i) (step (shapeOf f) (endTo f i) (entryAt f i)) (s′ .race) (j .running) (j .race-is));
@@ -206,11 +208,11 @@ module _ {f : List ℕ} (g : Good f) {marks₀ out₀ marks out : List ℕ} {s :
           ∙ sym (race-more 1 (resultsTo f i) (step (shapeOf f) (endTo f i) (entryAt f i)) (omega arith) (z .rep .quiet (j .running) .2) .0));
       entries-are = rw more-end (omega (arith, z .entries-are));
       inside = more;
-      marks-same = length-set marks i (s′ .mark) ∙ z .marks-same;
-      out-same = cond-elim (λ (l : List ℕ). length l ≡ length out₀) (eqb (s′ .mark) 5) (set out k (s′ .byte)) out
-          (λ _. length-set out k (s′ .byte) ∙ z .out-same) (λ _. z .out-same);
-      marks-are = λ fit. rw (more-results, ← (add-one i)) (mark-put (step (shapeOf f) (endTo f i) (entryAt f i)) (s′ .mark) (sym (j .mark-is)) fit);
-      out-is = λ fits. rw (more-end, queue-after) (written (eqb (s′ .mark) 5) refl .0 fits);
+      marks-same = length-set marks (i * each) (s′ .mark) ∙ z .marks-same;
+      out-same = cond-elim (λ (l : List ℕ). length l ≡ length out₀) (eqb (s′ .mark) 5) (set out (k * each) (s′ .byte)) out
+          (λ _. length-set out (k * each) (s′ .byte) ∙ z .out-same) (λ _. z .out-same);
+      marks-are = λ own. rw (more-results, ← (add-one i)) (mark-put (step (shapeOf f) (endTo f i) (entryAt f i)) (s′ .mark) (sym (j .mark-is)) own);
+      out-is = λ own. rw (more-end, queue-after) (written (eqb (s′ .mark) 5) refl .0 own);
       place-is = rw (more-end, queue-after) (written (eqb (s′ .mark) 5) refl .1);
       performed-is = rw more-results (ap (λ (n : ℕ). n + 1) (z .performed-is) ∙ sym (count-more entryPerformed (resultsTo f i) (step (shapeOf f) (endTo f i) (entryAt f i)) ∙ rw (j .performs)));
     })
@@ -222,23 +224,32 @@ module _ {f : List ℕ} (g : Good f) {marks₀ out₀ marks out : List ℕ} {s :
         queue-after = ap (λ (l : Local). l .queue) (after-here (endTo f i) (step (shapeOf f) (endTo f i) (entryAt f i)) firstRing (j .of-ring))
 
         written : (b : Bool) → eqb (s′ .mark) 5 ≡ b
-            → (total (popSizes f) ≤ length out₀
-            → cond b (set out k (s′ .byte)) out ≡ (step (shapeOf f) (endTo f i) (entryAt f i)) .queue .out ++ drop (cond b (k + 1) k) out₀)
+            → (each ≡ 1 → cond b (set out (k * each) (s′ .byte)) out ≡ (step (shapeOf f) (endTo f i) (entryAt f i)) .queue .out ++ drop (cond b (k + 1) k) out₀)
             × (cond b (k + 1) k ≡ length ((step (shapeOf f) (endTo f i) (entryAt f i)) .queue .out))
         written true e =
             let q′ : (step (shapeOf f) (endTo f i) (entryAt f i)) .queue .out ≡ endTo f i .queue firstRing .out ++ (s′ .byte ∷ []) = j .out-is ∙ rw e in
             let l : length ((step (shapeOf f) (endTo f i) (entryAt f i)) .queue .out) ≤ total (popSizes f) = out-bound (j .rep) in
             let n = ap length q′ ∙ length-more (endTo f i .queue firstRing .out) (s′ .byte) in (
-              λ fits. byte-put (endTo f i .queue firstRing .out) ((step (shapeOf f) (endTo f i) (entryAt f i)) .queue .out) out out₀ k (s′ .byte) (z .out-is fits) (z .place-is) q′
-                  (omega (arith, z .place-is)),
+              λ own. let at : k * each ≡ k = rw own (omega arith) in
+                  rw at (byte-put (endTo f i .queue firstRing .out) ((step (shapeOf f) (endTo f i) (entryAt f i)) .queue .out) out out₀ k (s′ .byte) (z .out-is own) (z .place-is) q′
+                  (omega (arith, fits k (omega (arith, z .place-is)), at))),
               sym (n ∙ omega (arith, z .place-is)),
             )
         written false e =
             let q′ : (step (shapeOf f) (endTo f i) (entryAt f i)) .queue .out ≡ endTo f i .queue firstRing .out = j .out-is ∙ rw e (sym (no-more (endTo f i .queue firstRing .out))) in
-            (λ fits. z .out-is fits ∙ ap (λ (l : List ℕ). l ++ drop k out₀) (sym q′), z .place-is ∙ ap length (sym q′))
+            (λ own. z .out-is own ∙ ap (λ (l : List ℕ). l ++ drop k out₀) (sym q′), z .place-is ∙ ap length (sym q′))
+
+  -- A data load has a place in out.
+  pub place-in : {s′ : Ring} → Joined (siteOf f) s′ (here (endTo f i) firstRing) (resultsTo f i) (step (shapeOf f) (endTo f i) (entryAt f i)) → s′ .mark ≡ 5
+      → k * each < length out
+  place-in {s′} j e =
+      let q′ : (step (shapeOf f) (endTo f i) (entryAt f i)) .queue .out ≡ endTo f i .queue firstRing .out ++ (s′ .byte ∷ []) = j .out-is ∙ rw e refl in
+      let l : length ((step (shapeOf f) (endTo f i) (entryAt f i)) .queue .out) ≤ total (popSizes f) = out-bound (j .rep) in
+      let n = ap length q′ ∙ length-more (endTo f i .queue firstRing .out) (s′ .byte) in
+      omega (arith, fits k (omega (arith, z .place-is)), z .out-same)
 
 -- The entries tried are those performed and those refused.
-counted : {f : List ℕ} {marks₀ out₀ marks out : List ℕ} {s : Ring} {performed k i : ℕ} → Going f marks₀ out₀ marks out s performed k i
+counted : {f : List ℕ} {each : ℕ} {marks₀ out₀ marks out : List ℕ} {s : Ring} {performed k i : ℕ} → Going f each marks₀ out₀ marks out s performed k i
     → performed + count entryRefused (resultsTo f i) ≡ i
 counted {f} {i = i} z =
     let e = performed-and-refused (resultsTo f i) in
@@ -251,7 +262,7 @@ pops-few {f} g =
     omega (arith, total-small (popSizes f) (length (popSizes f)) (g .fit .small core1), g .fit .few core1)
 
 -- The code's numbers are the definition's.
-told-numbers : {f : List ℕ} → Good f → {marks₀ out₀ marks out : List ℕ} {s : Ring} {performed k i : ℕ} → Going f marks₀ out₀ marks out s performed k i
+told-numbers : {f : List ℕ} → Good f → {each : ℕ} {marks₀ out₀ marks out : List ℕ} {s : Ring} {performed k i : ℕ} → Going f each marks₀ out₀ marks out s performed k i
     → (n : ℕ) → n ≡ i → toldOf (record { ring = s; performed = performed; loads = k }) n ≡ numbersOf f (resultsTo f i) (endTo f i)
 unfolding toldOf
 told-numbers {f} g {s = s} {performed = performed} {k = k} {i = i} z n en =
@@ -268,18 +279,18 @@ told-numbers {f} g {s = s} {performed = performed} {k = k} {i = i} z n en =
     rw (numbers-of-one f ran) (cc (z .performed-is, refused-are, pushed-are, popped-are, loads-are, left, r .failed-is core0, r .failed-is core1, z .race-is, r .partner-is, r .largest-is core0, r .largest-is core1))
 
 -- THE END of the run: every entry was tried.
-pub finished : {f : List ℕ} → Good f → {marks₀ out₀ marks out : List ℕ} {s : Ring} {performed k i : ℕ} → Going f marks₀ out₀ marks out s performed k i
+pub finished : {f : List ℕ} → Good f → {each : ℕ} {marks₀ out₀ marks out : List ℕ} {s : Ring} {performed k i : ℕ} → Going f each marks₀ out₀ marks out s performed k i
     → length (scheduleOf f) ≤ i → (n : ℕ) → n ≡ length (scheduleOf f) → (r : Ran) → r ≡ record { ring = s; performed = performed; loads = k }
-    → Finished f n marks₀ out₀ r marks out
-finished {f} g {marks₀} {out₀} {marks} {out} {s} {performed} {k} {i} z past n en r er =
+    → Finished f n each marks₀ out₀ r marks out
+finished {f} g {each} {marks₀} {out₀} {marks} {out} {s} {performed} {k} {i} z past n en r er =
     let ei : i ≡ n = omega (arith, z .inside) in
     let all : take i (scheduleOf f) ≡ scheduleOf f = take-all i (scheduleOf f) past in
     let eR : resultsTo f i ≡ resultsOf f = ap (results (shapeOf f) (fresh f)) all in
     let eE : endTo f i ≡ endOf f = ap (ends (shapeOf f) (fresh f)) all in
     let numbers = told-numbers g z n (sym ei) in
     rw er (record {
-      marks-are = λ fit. rw (← eR, ← ei) (z .marks-are (omega (arith, fit)));
-      out-is = λ fits. rw (← eE, ← (z .place-is)) (z .out-is fits);
+      marks-are = λ own. rw (← eR, ← ei) (z .marks-are own);
+      out-is = λ own. rw (← eE, ← (z .place-is)) (z .out-is own);
       numbers-are = rw (← eR, ← eE) numbers;
       countable = record {
         performed-le = omega (arith, counted z);

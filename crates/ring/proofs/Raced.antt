@@ -17,7 +17,7 @@ pub refused-race : (f : List ℕ) (code : ℕ) → code ≡ fileCode f → ¬ (c
 refused-race f code e h = record { code-is = e; lawful = λ z. absurd (h z); no-entry = λ _. refl; no-partner = λ _. refl }
 
 -- A lawful file: the two numbers are those of the computed run, which the definition allows.
-pub ran-race : (f marks out marks′ out′ : List ℕ) (n : ℕ) (r : Ran) → fileCode f ≡ 0 → Finished f n marks out r marks′ out′
+pub ran-race : (f marks out marks′ out′ : List ℕ) (n : ℕ) (r : Ran) → fileCode f ≡ 0 → Finished f n 0 marks out r marks′ out′
     → RaceAnswer f 0 (r .ring .race) (r .ring .partner)
 unfolding toldOf
 ran-race f marks out marks′ out′ n r e z = record {

@@ -1,4 +1,5 @@
-// The library that a C host calls: one entry plays a whole run file, another only tells whether it races. All else is private to this crate.
+// The library that a C host calls: one entry, which plays a whole run file. Beside it whole-file functions that other crates export, each by itself,
+// since a second caller of the run in one library would make the first one slower. All else is private to this crate.
 //
 // state: the machine's state. stores: the list of an index's stores. moves: what each action does to the state. refusal: why an entry is
 // refused. reads: what the machine reads of the run file. run: the run over all entries. report: the twelve numbers. race: only, does it race?
@@ -14,7 +15,6 @@ mod state;
 mod stores;
 
 ghost use Rattle.model.specs.Outcome.{Outcome};
-ghost use Rattle.model.specs.RaceAnswer.{RaceOutcome};
 
 // Plays a run file. The answer is its code; for code 0 the marks, the bytes read and the report stand in the three lent buffers, and for any
 // other code nothing was written.
@@ -33,17 +33,8 @@ pub extern "C" fn ferrulique_run(
     }
     let at = file::parts::schedule_at(file);
     let n = (file.len() - at) / 2;
-    let ran = crate::run::run(file, at, n, marks, out);
+    let ran = crate::run::run(file, at, n, 1, marks, out);
     let numbers = crate::report::numbers(ran, n as u32);
     crate::report::put_report(report, numbers);
     0
-}
-
-// Whether and where a run file races, with no buffer lent: the code in the lowest 8 bits, the racing entry in the 24 above, its partner in the 24
-// above those.
-#[no_mangle]
-pub extern "C" fn ferrulique_race(file: &[u8]) -> u64
-    ensures { λ answer. ⌜ RaceOutcome (now (file .entry)) answer ⌝ }
-{
-    crate::race::packed(crate::race::race(file))
 }

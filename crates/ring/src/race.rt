@@ -1,4 +1,4 @@
-// Only: does it race? The same run with no buffer lent, and two of its numbers.
+// Only: does it race? The same run, every mark and every byte read written over the last, and two of its numbers.
 use crate::run::run;
 use file::code::file_code;
 use file::parts::schedule_at;
@@ -26,15 +26,15 @@ pub fn race(file: &[u8]) -> Raced
         return Raced::Refused(code);
     }
     let at = schedule_at(file);
-    let mut marks = [0u8; 0];
-    let mut out = [0u8; 0];
-    let ran = run(file, at, (file.len() - at) / 2, &mut marks, &mut out);
+    let mut marks = [0u8; 1];
+    let mut out = [0u8; 1];
+    let ran = run(file, at, (file.len() - at) / 2, 0, &mut marks, &mut out);
     let ring = ran.ring;
     Raced::Ran(ring.race, ring.partner)
 }
 
 // The answer as one number.
-pub(crate) fn packed(answer: Raced) -> u64
+pub fn packed(answer: Raced) -> u64
     ensures { λ r. ⌜ r ≡ packedOf answer ⌝ }
 {
     match answer {

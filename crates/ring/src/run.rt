@@ -4,17 +4,24 @@ use crate::reads::fresh_ring;
 use crate::reads::size_of;
 use crate::refusal::refusal;
 use crate::state::Ran;
-use little::put1;
 ghost use mathlib.Core.Path.{_≡_};
-ghost use Prim.Native.Nat.{_<_};
+ghost use Prim.Native.Nat.{_*_, _<_, _≤_};
+ghost use lib.ListN.{length};
 ghost use Rattle.ring.specs.computed.Run.{whoOf, nextPlace, putByte, Ready, Finished};
 
 // Each entry in turn: refused with its mark, or the move that its core's phase chooses. Each arm hands the state back to where it was, so that
-// the compiler copies no part of it but what the move changes. A mark or a byte is written only where the buffer has a place for it: who asks
-// only for the numbers lends none.
-pub(crate) fn run(file: &[u8], at: usize, n: usize, marks: &mut [u8], out: &mut [u8]) -> Ran
-    requires { ⌜ Ready (now file) at n ⌝ }
-    ensures { λ r. ⌜ Finished (now (file .entry)) n (now (marks .entry)) (now (out .entry)) r (now (marks .exit)) (now (out .exit)) ⌝ }
+// the compiler copies no part of it but what the move changes. The marks lie `each` apart, and so do the bytes read: 1, or 0 for who
+// asks only for the numbers and lends one byte for all.
+pub(crate) fn run(
+    file: &[u8],
+    at: usize,
+    n: usize,
+    each: usize,
+    marks: &mut [u8],
+    out: &mut [u8],
+) -> Ran
+    requires { ⌜ Ready (now file) at n each (length (now marks)) (length (now out)) ⌝ }
+    ensures { λ r. ⌜ Finished (now (file .entry)) n each (now (marks .entry)) (now (out .entry)) r (now (marks .exit)) (now (out .exit)) ⌝ }
 {
     let mut ring = fresh_ring(file);
     let mut performed: u32 = 0;
@@ -28,7 +35,7 @@ pub(crate) fn run(file: &[u8], at: usize, n: usize, marks: &mut [u8], out: &mut 
         let cores = ring.cores;
         let no = refusal(file, core, age, ring.race, cores, ring.back, ring.front);
         if no != 0 {
-            put1(marks, i, no);
+            marks[i * each] = no;
             i += 1;
             continue;
         }
@@ -49,8 +56,8 @@ pub(crate) fn run(file: &[u8], at: usize, n: usize, marks: &mut [u8], out: &mut 
                 ring = ring.index_store(who, entry);
             }
         }
-        put1(marks, i, ring.mark);
-        k = keep_byte(out, k, ring.mark, ring.byte);
+        marks[i * each] = ring.mark;
+        k = keep_byte(out, k, each, ring.mark, ring.byte);
         performed += 1;
         i += 1;
     }
@@ -72,12 +79,12 @@ fn who_of(core: u8) -> usize
 }
 
 // The byte of a data load goes to the next place of out.
-fn keep_byte(out: &mut [u8], k: usize, mark: u8, byte: u8) -> usize
-    requires { ⌜ k < 65536 ⌝ }
-    ensures { λ r. ⌜ (r ≡ nextPlace k mark) × (now (out .exit) ≡ putByte (now (out .entry)) k mark byte) ⌝ }
+fn keep_byte(out: &mut [u8], k: usize, each: usize, mark: u8, byte: u8) -> usize
+    requires { ⌜ (each ≤ 1) × ((k < 65536) × (mark ≡ 5 → k * each < length (now out))) ⌝ }
+    ensures { λ r. ⌜ (r ≡ nextPlace k mark) × (now (out .exit) ≡ putByte (now (out .entry)) (k * each) mark byte) ⌝ }
 {
     if mark == 5 {
-        put1(out, k, byte);
+        out[k * each] = byte;
         return k + 1;
     }
     k

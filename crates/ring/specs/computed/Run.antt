@@ -2,7 +2,7 @@
 use mathlib.Core.Path.{_≡_}
 use mathlib.Core.Bool.{cond}
 use mathlib.Core.List.{List, _++_}
-use Prim.Native.Nat.{ℕ, _+_, _≤_}
+use Prim.Native.Nat.{ℕ, _+_, _*_, _<_, _≤_}
 use lib.Dec.{eqb}
 use lib.ListN.{set, length, drop}
 use Rattle.model.specs.File.{total, popSizes, scheduleAt, scheduleOf}
@@ -30,15 +30,19 @@ resultsOf f = results (shapeOf f) (fresh f) (scheduleOf f)
 abbrev pub endOf : List ℕ → State
 endOf f = ends (shapeOf f) (fresh f) (scheduleOf f)
 
--- A lawful file, and its schedule's place and length.
-pub record Ready (f : List ℕ) (at n : ℕ) : Type 0 where
+-- A lawful file, its schedule's place and length, and how far apart the marks lie and the bytes read: 1, or 0 where all go to one place. Each has a
+-- place in the buffers, which have these lengths.
+pub record Ready (f : List ℕ) (at n each marks out : ℕ) : Type 0 where
   pub lawful : Lawful f
   pub at-is : at ≡ scheduleAt f
   pub n-is : n ≡ length (scheduleOf f)
+  pub each-le : each ≤ 1
+  pub marks-fit : (i : ℕ) → i < n → i * each < marks
+  pub out-fits : (k : ℕ) → k < total (popSizes f) → k * each < out
 
--- The buffers, where they are long enough, hold the marks and the bytes of the computed run; the numbers are its numbers, whatever was lent.
-pub record Finished (f : List ℕ) (n : ℕ) (marks out : List ℕ) (r : Ran) (marks′ out′ : List ℕ) : Type 0 where
-  pub marks-are : n ≤ length marks → marks′ ≡ marksOf (resultsOf f) ++ drop n marks
-  pub out-is : total (popSizes f) ≤ length out → out′ ≡ endOf f .queue firstRing .out ++ drop (length (endOf f .queue firstRing .out)) out
+-- The buffers, where each mark and each byte has its own place, hold those of the computed run; the numbers are its numbers in either case.
+pub record Finished (f : List ℕ) (n each : ℕ) (marks out : List ℕ) (r : Ran) (marks′ out′ : List ℕ) : Type 0 where
+  pub marks-are : each ≡ 1 → marks′ ≡ marksOf (resultsOf f) ++ drop n marks
+  pub out-is : each ≡ 1 → out′ ≡ endOf f .queue firstRing .out ++ drop (length (endOf f .queue firstRing .out)) out
   pub numbers-are : toldOf r n ≡ numbersOf f (resultsOf f) (endOf f)
   pub countable : Countable r n

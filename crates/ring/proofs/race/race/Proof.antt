@@ -2,7 +2,7 @@
 use native.Mathlib.Omega.{arith}
 use mathlib.Core.Path.{refl, sym, _∙_}
 use Rattle.model.proofs.Laid.{lawful-ranges}
-use Rattle.ring.proofs.Whole.{ready}
+use Rattle.ring.proofs.Whole.{ready-over}
 use Rattle.ring.proofs.Raced.{refused-race, ran-race}
 use borrow.Author.Needs.{needs}
 use Rattle.ring.proofs.race.race.Statement.{statement}
@@ -27,7 +27,7 @@ slice-aggregate-run-2 : tie.Need-slice-aggregate-run-2
 slice-aggregate-run-2 c = search needs
 
 run-requires : tie.Need-run-requires
-run-requires c κs = ready (c .before .before .before .before .before .before .args .file .now) (c .before .before .schedule-at .result) _ (sym (c .before .before .before .before .file-code .ensures) ∙ c .before .before .before .if1 .left) (c .before .before .schedule-at .ensures) refl
+run-requires c κs = ready-over (c .before .before .before .before .before .before .args .file .now) (c .before .before .schedule-at .result) _ (sym (c .before .before .before .before .file-code .ensures) ∙ c .before .before .before .if1 .left) (c .before .before .schedule-at .ensures) refl
 
 returns-2 : tie.Need-returns-2
 returns-2 c = ran-race (c .before .before .before .before .before .before .before .before .before .before .args .file .now) _ _ _ _ _ (c .before .before .before .run .result) (sym (c .before .before .before .before .before .before .before .before .file-code .ensures) ∙ c .before .before .before .before .before .before .before .if1 .left) (c .before .before .before .run .ensures)

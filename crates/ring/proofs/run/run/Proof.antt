@@ -14,13 +14,12 @@ use Rattle.ring.proofs.Join.{Joined}
 use Rattle.ring.proofs.Site.{here}
 use Rattle.ring.proofs.Entry.{GoesOne, own-arm, foreign-arm, data-arm, index-arm, who-lt, bounds, age-lt, moved-lt, count-lt}
 use Rattle.ring.proofs.Loop.{resultsTo, endTo}
-use Rattle.ring.proofs.Turn.{Turning, entry-in, turning-none, refused-turns, goes-on, number-is, place-lt, moved-turns, marks-length, out-length, few-performed, few-entries, all-turned}
+use Rattle.ring.proofs.Turn.{Turning, entry-in, turning-none, refused-turns, goes-on, number-is, place-here, place-lt, mark-place, moved-turns, marks-length, out-length, few-performed, few-entries, all-turned}
 use borrow.Author.Needs.{needs}
 use Rattle.ring.proofs.run.run.Statement.{statement}
 use Rattle.ring.proofs.run.run.Tie as tie
 use Rattle.ring.proofs.run.run.Reads as reads
 use Rattle.ring.proofs.run.run.Lts as lts
-use Rattle.little.proofs.put1.Reads as put1-reads
 use Rattle.ring.proofs.reads.byte_for.Reads as byte-for-reads
 use Rattle.ring.proofs.reads.fresh_ring.Reads as fresh-ring-reads
 use Rattle.ring.proofs.reads.size_of.Reads as size-of-reads
@@ -33,13 +32,13 @@ use Rattle.ring.proofs.state.Ring.index_store.Reads as index-store-read
 use Rattle.ring.proofs.state.Ring.own_load.Reads as own-load-reads
 
 abbrev Inv-loop : tie.InvT-loop
-Inv-loop file at n marks₀ out₀ ring₀ performed₀ k₀ i₀ marks out ring performed k i = Turning file at n marks₀ out₀ marks out ring performed k i
+Inv-loop file at n each marks₀ out₀ ring₀ performed₀ k₀ i₀ marks out ring performed k i = Turning file at n each marks₀ out₀ marks out ring performed k i
 
 abbrev μ-loop : tie.MeasureT-loop
-μ-loop file at n marks₀ out₀ ring₀ performed₀ k₀ i₀ marks out ring performed k i = n - i
+μ-loop file at n each marks₀ out₀ ring₀ performed₀ k₀ i₀ marks out ring performed k i = n - i
 
 abbrev claims : lts.Claims
-claims = (fresh-ring-reads.Asked, fresh-ring-reads.Learnt, who-of-reads.Asked, who-of-reads.Learnt, refusal-reads.Asked, refusal-reads.Learnt, put1-reads.Asked, put1-reads.Learnt, size-of-reads.Asked, size-of-reads.Learnt, own-load-reads.Asked, own-load-reads.Learnt, foreign-load-reads.Asked, foreign-load-reads.Learnt, byte-for-reads.Asked, byte-for-reads.Learnt, data-access-reads.Asked, data-access-reads.Learnt, index-store-reads.Asked, index-store-reads.Learnt, keep-byte-reads.Asked, keep-byte-reads.Learnt)
+claims = (fresh-ring-reads.Asked, fresh-ring-reads.Learnt, who-of-reads.Asked, who-of-reads.Learnt, refusal-reads.Asked, refusal-reads.Learnt, size-of-reads.Asked, size-of-reads.Learnt, own-load-reads.Asked, own-load-reads.Learnt, foreign-load-reads.Asked, foreign-load-reads.Learnt, byte-for-reads.Asked, byte-for-reads.Learnt, data-access-reads.Asked, data-access-reads.Learnt, index-store-reads.Asked, index-store-reads.Learnt, keep-byte-reads.Asked, keep-byte-reads.Learnt)
 
 -- Where an entry has been tried: the run's start, the loop's turn and its test, and the entry's two bytes.
 abbrev Tried : Type 0
@@ -93,17 +92,20 @@ array-copy-out-c c = c .before .before .before .who-of .ensures .1
 refusal-requires : tie.Need-refusal-requires Inv-loop μ-loop
 refusal-requires c κs = (short (c .before .before .before .before .before .loop .inv .fine .fit) (c .before .before .before .before .before .loop .inv .going .rep) core0, short (c .before .before .before .before .before .loop .inv .fine .fit) (c .before .before .before .before .before .loop .inv .going .rep) core1)
 
-put1-requires : tie.Need-put1-requires Inv-loop μ-loop
-put1-requires c κs = search needs
+mul-marks : tie.Need-mul-marks Inv-loop μ-loop
+mul-marks c = omega (arith, mark-place (loop-of (c .before) .loop .inv) (test-of (c .before) .loop-test .taken))
+
+slice-write-marks : tie.Need-slice-write-marks Inv-loop μ-loop
+slice-write-marks c = mark-place (loop-of (c .before) .loop .inv) (test-of (c .before) .loop-test .taken) .0
 
 add-i : tie.Need-add-i Inv-loop μ-loop
-add-i c = omega (arith, few-entries (loop-of (c .before .before .before .before .before) .loop .inv), test-of (c .before .before .before .before .before) .loop-test .taken)
+add-i c = omega (arith, few-entries (loop-of (c .before) .loop .inv), test-of (c .before) .loop-test .taken)
 
 loop-less : tie.Need-loop-less Inv-loop μ-loop
-loop-less c = omega (arith, c .before .before .before .before .before .before .before .before .before .before .loop-test .taken)
+loop-less c = omega (arith, c .before .before .before .before .before .before .loop-test .taken)
 
 loop-again : tie.Need-loop-again Inv-loop μ-loop
-loop-again c = refused-turns (loop-of (c .before .before .before .before .before) .loop .inv) (test-of (c .before .before .before .before .before) .loop-test .taken) (core-byte (c .before .before .before .before .before)) (age-byte (c .before .before .before .before .before)) (c .before .before .before .before .before .refusal .result) refl refl (c .before .before .before .before .before .refusal .ensures) (c .before .before .before .before .if1 .taken) (c .before .before .put1 .last .0) (c .before .before .put1 .ensures)
+loop-again c = refused-turns (loop-of (c .before) .loop .inv) (test-of (c .before) .loop-test .taken) (core-byte (c .before)) (age-byte (c .before)) (c .before .refusal .result) refl refl (c .before .refusal .ensures) (c .if1 .taken) _ refl
 
 add-entry : tie.Need-add-entry Inv-loop μ-loop
 add-entry c = omega (arith, few-entries (loop-of (c .before .before) .loop .inv), test-of (c .before .before) .loop-test .taken)
@@ -144,23 +146,32 @@ joined c = ⊎-elim
     (λ w. rw (w .2, w .1 .ensures, ← (number-is (loop-of (c .before .before .before) .loop .inv) (test-of (c .before .before .before) .loop-test .taken) (core-byte (c .before .before .before)) (age-byte (c .before .before .before)) (c .before .before .before .refusal .result) refl refl (c .before .before .before .refusal .ensures))) (index-arm (loop-of (c .before .before .before) .loop .inv .fine) (loop-of (c .before .before .before) .loop .inv .going .rep) (core-byte (c .before .before .before)) (age-byte (c .before .before .before)) (goes (c .before .before)) (c .before .before .before .before .before .who-of .result) (c .before .before .before .before .before .who-of .ensures .0) (w .0 .rest .0 .0 .1) (w .0 .rest .0 .1) (w .0 .rest .1)))))
     (c .match .came)
 
-put1-requires-2 : tie.Need-put1-requires-2 Inv-loop μ-loop
-put1-requires-2 c κs = search needs
+mul-marks-2 : tie.Need-mul-marks-2 Inv-loop μ-loop
+mul-marks-2 c = omega (arith, mark-place (loop-of (c .before .before .before) .loop .inv) (test-of (c .before .before .before) .loop-test .taken))
+
+slice-write-marks-2 : tie.Need-slice-write-marks-2 Inv-loop μ-loop
+slice-write-marks-2 c = mark-place (loop-of (c .before .before .before) .loop .inv) (test-of (c .before .before .before) .loop-test .taken) .0
 
 keep-byte-requires : tie.Need-keep-byte-requires Inv-loop μ-loop
-keep-byte-requires c κs = place-lt (loop-of (c .before .before .before .before .before .before .before .before) .loop .inv)
+keep-byte-requires c κs = (
+  loop-of (c .before .before .before .before) .loop .inv .ready .each-le,
+  (
+    place-lt (loop-of (c .before .before .before .before) .loop .inv),
+    place-here (loop-of (c .before .before .before .before) .loop .inv) (test-of (c .before .before .before .before) .loop-test .taken) (core-byte (c .before .before .before .before)) (age-byte (c .before .before .before .before)) (c .before .before .before .before .refusal .result) refl refl (c .before .before .before .before .refusal .ensures) (joined (c .before)),
+  ),
+)
 
 add-performed : tie.Need-add-performed Inv-loop μ-loop
-add-performed c = omega (arith, few-performed (loop-of (c .before .before .before .before .before .before .before .before .before .before .before) .loop .inv), few-entries (loop-of (c .before .before .before .before .before .before .before .before .before .before .before) .loop .inv), test-of (c .before .before .before .before .before .before .before .before .before .before .before) .loop-test .taken)
+add-performed c = omega (arith, few-performed (loop-of (c .before .before .before .before .before .before .before) .loop .inv), few-entries (loop-of (c .before .before .before .before .before .before .before) .loop .inv), test-of (c .before .before .before .before .before .before .before) .loop-test .taken)
 
 add-i-2 : tie.Need-add-i-2 Inv-loop μ-loop
-add-i-2 c = omega (arith, few-entries (loop-of (c .before .before .before .before .before .before .before .before .before .before .before) .loop .inv), test-of (c .before .before .before .before .before .before .before .before .before .before .before) .loop-test .taken)
+add-i-2 c = omega (arith, few-entries (loop-of (c .before .before .before .before .before .before .before) .loop .inv), test-of (c .before .before .before .before .before .before .before) .loop-test .taken)
 
 loop-less-2 : tie.Need-loop-less-2 Inv-loop μ-loop
-loop-less-2 c = omega (arith, c .before .before .before .before .before .before .before .before .before .before .before .before .before .before .before .before .loop-test .taken)
+loop-less-2 c = omega (arith, c .before .before .before .before .before .before .before .before .before .before .before .before .loop-test .taken)
 
 loop-again-2 : tie.Need-loop-again-2 Inv-loop μ-loop
-loop-again-2 c = moved-turns (loop-of (c .before .before .before .before .before .before .before .before .before .before .before) .loop .inv) (test-of (c .before .before .before .before .before .before .before .before .before .before .before) .loop-test .taken) (core-byte (c .before .before .before .before .before .before .before .before .before .before .before)) (age-byte (c .before .before .before .before .before .before .before .before .before .before .before)) (c .before .before .before .before .before .before .before .before .before .before .before .refusal .result) refl refl (c .before .before .before .before .before .before .before .before .before .before .before .refusal .ensures) (joined (c .before .before .before .before .before .before .before .before)) (c .before .before .before .before .before .before .put12 .last .0) (c .before .before .keep-byte .last .0) (c .before .before .keep-byte .result) (c .before .before .before .before .before .before .put12 .ensures) (c .before .before .keep-byte .ensures .1) (c .before .before .keep-byte .ensures .0)
+loop-again-2 c = moved-turns (loop-of (c .before .before .before .before .before .before .before) .loop .inv) (test-of (c .before .before .before .before .before .before .before) .loop-test .taken) (core-byte (c .before .before .before .before .before .before .before)) (age-byte (c .before .before .before .before .before .before .before)) (c .before .before .before .before .before .before .before .refusal .result) refl refl (c .before .before .before .before .before .before .before .refusal .ensures) (joined (c .before .before .before .before)) _ (c .before .before .keep-byte .last .0) (c .before .before .keep-byte .result) refl (c .before .before .keep-byte .ensures .1) (c .before .before .keep-byte .ensures .0)
 
 same-length : tie.Need-same-length Inv-loop μ-loop
 same-length c = marks-length (c .before .loop .inv)
@@ -186,7 +197,8 @@ run-spec =
     shared-slice-read-age
     who-of-requires
     refusal-requires
-    put1-requires
+    mul-marks
+    slice-write-marks
     add-i
     loop-less
     loop-again
@@ -200,7 +212,8 @@ run-spec =
     byte-for-requires
     data-access-requires
     index-store-requires
-    put1-requires-2
+    mul-marks-2
+    slice-write-marks-2
     keep-byte-requires
     add-performed
     add-i-2
