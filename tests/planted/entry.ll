@@ -26,6 +26,6 @@ define i64 @ferrulique_race(ptr %file, i64 %file_len) {
   %a.len = getelementptr { ptr, i64 }, ptr %a, i32 0, i32 1
   store ptr %file, ptr %a
   store i64 %file_len, ptr %a.len
-  %answer = call i64 @"ring::ferrulique_race"(ptr %a)
+  %answer = call i64 @"races::ferrulique_race"(ptr %a)
   ret i64 %answer
 }
