@@ -2,6 +2,8 @@
 //
 // limits: the ranges and limits. parts: the numbers, the batch sizes, the bytes to push, the schedule's place. code: the code of a file.
 // pair: the same of a file with two rings.
+#![tactic(auto)]
+
 pub mod code;
 pub mod limits;
 pub mod pair;

@@ -1,5 +1,7 @@
 // Numbers in bytes, little-endian: the lowest byte comes first. Nothing is asked of a caller: past the end of the bytes there are zeros to
 // read, and a number that does not fit is not written.
+#![tactic(auto)]
+
 ghost use Rattle.std.specs.Prelude.{◌≡◌, ◌%◌, ◌<◌};
 ghost use Rattle.model.specs.File.{byte_at, number4};
 ghost use Rattle.little.specs.Little.{put4_of};

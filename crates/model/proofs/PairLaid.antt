@@ -40,15 +40,15 @@ pair_laid f h =
           drop-drop 8 8 f ∙ from_sizes
           )
           );
-      push-sizes = λ r. elim r [
+      push-sizes = λ r. elim r as (λ k. length (push_sizes_of k f) ≡ byte_at (header_of k f) 6) [
         | zero ↦ as_many 16 (push_count f) (omega arith)
         | suc n ↦ as_many (sizes_at second_ring f) (push_count (drop 8 f)) (omega arith)
       ];
-      pop-sizes = λ r. elim r [
+      pop-sizes = λ r. elim r as (λ k. length (pop_sizes_of k f) ≡ byte_at (header_of k f) 7) [
         | zero ↦ as_many (16 + push_count f) (pop_count f) (omega arith)
         | suc n ↦ as_many (sizes_at second_ring f + push_count (drop 8 f)) (pop_count (drop 8 f)) (omega arith)
       ];
-      bytes = λ r. elim r [
+      bytes = λ r. elim r as (λ k. length (push_bytes_of k f) ≡ total (push_sizes_of k f)) [
         | zero ↦ as_many (bytes_at first_ring f) (total (push_sizes_of first_ring f)) (omega arith)
         | suc n ↦ as_many (bytes_at second_ring f) (total (push_sizes_of second_ring f)) (omega arith)
       ];

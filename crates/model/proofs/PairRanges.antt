@@ -46,7 +46,7 @@ pair_ranges f h =
     record {
       header = ltb-false (length f) 16 z.0;
       bounded = ltb-false most_file_bytes (length f) z.1.0;
-      ring = λ r. elim r [ zero ↦ ring_ranges (header_of first_ring f) one.0 | suc n ↦ ring_ranges (header_of second_ring f) two.0 ];
+      ring = λ r. elim r as (λ k. RingRanges (header_of k f)) [ zero ↦ ring_ranges (header_of first_ring f) one.0 | suc n ↦ ring_ranges (header_of second_ring f) two.0 ];
       sizes_in = ltb-false (length f) (pair_sizes_end f) r7.0;
       bytes_in = ltb-false (length f) (pair_schedule_at f) r7.1;
       even = omega (arith, eqb-false ((length f - pair_schedule_at f) % 2) 1 c.1.0);

@@ -1,6 +1,6 @@
 -- Mark 134 is given exactly where the store to be read is out of reach; with age 0 it never is. A run has one ring, so what axiom 2 hides the core
 -- has passed as well.
-use mathlib.Core.Path.{◌≡◌, sym, ◌∙◌}
+use mathlib.Core.Path.{◌≡◌, sym, ◌∙◌, subst}
 use mathlib.Core.Logic.{◌↔◌, inl, inr}
 use mathlib.Core.Bool.{Bool, true, false}
 use mathlib.Core.List.{List}
@@ -95,7 +95,7 @@ pub newest_never_refused : (p : Ring → Part) (names : ℕ → Named) {es : Lis
     → (e : Entry) (x : Result) → e.age ≡ 0 → Step (machine_of p names) s e x → ¬ (x.mark ≡ store_hidden)
 newest_never_refused p names {s = s} run e x young d k =
     let b = (out_of_reach_exactly (machine_of p names) s e x d).0 k in
-    entered_newest (machine_of p names) s (names e.core) s.halted (run_formed tt run) (rw young at b)
+    entered_newest (machine_of p names) s (names e.core) s.halted (run_formed tt run) (subst (λ a. BarredEntry (machine_of p names) s a (names e.core) s.halted) young b)
 
 -- ONE RING: the index loads of a run of one ring are of that ring.
 loads_in : (r : Ring) (a : Act) → ActIn r a → LoadsIn r a

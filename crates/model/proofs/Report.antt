@@ -9,7 +9,7 @@ use Prim.Native.Nat.{ℕ, suc, ◌+◌, ◌≤◌, ◌<◌}
 use native.Mathlib.Omega.{arith}
 use lib.Dec.{eqb}
 use lib.ListN.{length, length-append}
-use Rattle.order.specs.Trace.{Core, core0, core1, same_core, Ring, Trace, who}
+use Rattle.order.specs.Trace.{Core, core0, core1, same_core, Ring, index, Trace, who, latest, value_of}
 use Rattle.order.specs.Order.{Orders}
 use Rattle.order.proofs.Trace.{and_false, and_with, same_self, same_true}
 use Rattle.model.specs.File.{Entry, total, push_sizes, pop_sizes, Part, part_of}
@@ -105,8 +105,17 @@ does_changed : (o : Orders) {g : Shape} {r : Ring} {c : Core} {q : Queue} {t : T
 does_changed o {c = c} {q = q} (no_batch e) x d = stayed q c x _ (ap (λ (y : Result). y.mark) d) refl refl (rw d)
 does_changed o {c = c} {q = q} no_age x d = stayed q c x _ (ap (λ (y : Result). y.mark) d) refl refl (rw d)
 does_changed o {c = c} {q = q} past x d = stayed q c x _ (ap (λ (y : Result). y.mark) d) refl refl (rw d)
-does_changed o {g} {r} {c = c} {q = q} (owning n rest eb ep) x d =
-    rw d (side _ refl refl (stays refl refl (sym eb) refl (λ _. first_phase (is_short g r c n _ (q.side c).cached) _ refl)))
+does_changed o {g} {r} {c = c} {q = q} {t = t} (owning n rest eb ep) x d =
+    let own = value_of t (latest t (index r c)) in
+    let me : Side = record {
+      batches = n ∷ rest;
+      phase = cond (is_short g r c n own (q.side c).cached) reload (moving 0);
+      own = own;
+      cached = (q.side c).cached;
+      moved = [];
+      completed = (q.side c).completed;
+    } in
+    rw d (side me refl refl (stays refl refl (sym eb) refl (λ _. first_phase (is_short g r c n own (q.side c).cached) me refl)))
 does_changed o {c = c} {q = q} (failing n rest s eb ep e h) x (inl d) = stayed q c x _ (ap (λ (y : Result). y.mark) d.1) refl refl (rw d.1)
 does_changed o {c = c} {q = q} (failing n rest s eb ep e h) x (inr d) = rw d.1 (side _ refl refl (fails n rest refl eb refl refl refl refl))
 does_changed o {c = c} {q = q} (keeping n rest s eb ep e h) x (inl d) = stayed q c x _ (ap (λ (y : Result). y.mark) d.1) refl refl (rw d.1)

@@ -1,4 +1,6 @@
 // The race question for a C host: whether and where a run file races, with no buffer lent.
+#![tactic(auto)]
+
 ghost use Rattle.model.specs.RaceAnswer.{RaceOutcome};
 
 // The code in the lowest 8 bits, the racing entry in the 24 above, its partner in the 24 above those; both are 0 where nothing races.

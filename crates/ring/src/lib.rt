@@ -5,6 +5,8 @@
 // refused. reads: what the machine reads of the run file. run: the run over all entries. report: the twelve numbers. race: only, does it race?
 //
 // Below it, in crates of their own: the room rule, the run file's parts and codes, numbers as bytes.
+#![tactic(auto)]
+
 mod moves;
 pub mod race;
 mod reads;

@@ -1,4 +1,6 @@
 // Is there room? The one question of the queue, in plain numbers: it asks nothing of its caller.
+#![tactic(auto)]
+
 ghost use Rattle.std.specs.Prelude.{◌≡◌, ◌-◌};
 ghost use Rattle.model.specs.Queue.{room_of, shortfall_of};
 
