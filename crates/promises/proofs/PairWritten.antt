@@ -10,7 +10,7 @@ use Rattle.model.specs.PairFile.{second_ring, header_of, sizes_at, push_sizes_of
 use Rattle.model.specs.PairCodes.{LawfulPair}
 use Rattle.model.proofs.Inverse.{four_read}
 use Rattle.model.proofs.Laid.{pairs_flat, length_flat}
-use Rattle.model.proofs.Ranges.{Ranged}
+use Rattle.model.proofs.Ranges.{Ranged, RingRanges}
 use Rattle.model.proofs.PairRanges.{ranges_lawful_pair}
 use Rattle.promises.specs.Written.{pair_file_of}
 use Rattle.promises.proofs.Written.{Whole, InRange, part_there, part_next}
@@ -136,7 +136,7 @@ module _ (p q : Part) (w : Whole p) (v : Whole q) (es : List Entry) where
       ranges_lawful_pair f (record {
         header = omega arith;
         bounded = few;
-        ring = λ k. elim k [
+        ring = λ k. elim k as (λ j. RingRanges (header_of j f)) [
           | zero ↦ subst (λ (M : ℕ). Ranged p.size M p.bits) (sym modulus₁) r
           | suc n ↦ subst (λ (M : ℕ). Ranged q.size M q.bits) (sym modulus₂) s
         ];

@@ -102,6 +102,8 @@ module _ (p : Ring → Part) (names : ℕ → Named) (r : Ring) where
   pub run_same : (s s₁ : State) → Alike r s s₁ → Formed s₁.trace → Here s₁.trace → (es es₁ : List Entry) → AllSame names r es es₁
       → (results g s es ≡ map (result_at r) (results g₁ s₁ es₁)) × Alike r (ends g s es) (ends g₁ s₁ es₁) × Here (ends g₁ s₁ es₁).trace
   run_same s s₁ a f here [] [] k = (refl, a, here)
+  run_same s s₁ a f here [] (e₁ ∷ es₁) k = elim k [ ]
+  run_same s s₁ a f here (e ∷ es) [] k = elim k [ ]
   run_same s s₁ a f here (e ∷ es) (e₁ ∷ es₁) k =
       let x : Result = step g s e in
       let x₁ : Result = step g₁ s₁ e₁ in

@@ -11,7 +11,7 @@ use lib.Seq.{take-append-le, take_all}
 use borrow.Author.Tests.{eqb-true, eqb-false}
 use Rattle.order.specs.Trace.{Core, other, same_core, Ring, index, load, Trace, act, stores_to, value_of}
 use Rattle.order.specs.Order.{Orders}
-use Rattle.order.proofs.Trace.{clash, and_true, same_true, newest, older, store_at, StoreOf}
+use Rattle.order.proofs.Trace.{clash, and_true, same_true, newest, older, store-at, StoreOf}
 use Rattle.model.specs.File.{Entry, total, Part, part_of}
 use Rattle.model.specs.Queue.{Named, nobody, named, Shape, start, Side, Queue, with_queue, lead, shortfall}
 use Rattle.model.specs.Plan.{Plan}
@@ -131,7 +131,7 @@ module _ (p : Ring → Part) (names : ℕ → Named) (fair : (r : Ring) → Fair
       let long : length (xs ++ (x ∷ [])) ≡ suc (length xs) = length-append xs (x ∷ []) ∙ omega arith in
       let more = run_more run e x d in (
         omega (arith, q.0),
-        λ c k h. elim (store_at x.did s.trace (index r c) k h) [
+        λ c k h. elim (store-at x.did s.trace (index r c) k h) [
           | newest y z ↦
               let stored : stores_to (index r c) x.did ≡ true = rw z at h in
               let ring = of-ring c stored in
