@@ -13,7 +13,7 @@ use crate::parts::{sum_within, wide};
 use little::byte_at;
 
 // Where a ring's parts lie: its push sizes, its pop sizes, its bytes to push. And how many pushes and pops it has.
-#[derive(Drop)]
+#[derive(Clone, Copy)]
 pub struct Layout {
     pub push: usize,
     pub pop: usize,
