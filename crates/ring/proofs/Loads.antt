@@ -29,7 +29,7 @@ use Rattle.ring.specs.computed.Moves as mv
 use Rattle.ring.proofs.Site.{Site, part, shape, producer, seat, sizes_of, Fit, Local, step_at}
 use Rattle.ring.proofs.Parts.{batches_cons, progress, phase_after_load, learnt_is}
 use Rattle.ring.proofs.Lists.{listed_some, listed_old, newest_is, newest_below, ReadTo, reach_is}
-use Rattle.ring.proofs.Rep.{list_of, list_same, read_kept, Sized, CoreRep, Rep, short, put_same, put_other, lately_kept}
+use Rattle.ring.proofs.Rep.{list_of, list_same, read_kept, Sized, CoreRep, Rep, put_same, put_other, lately_kept}
 use Rattle.ring.proofs.Kept.{moved_kept}
 use Rattle.ring.proofs.Join.{Joined, no_more, chosen_is, chosen_other, feed_keeps, out_keeps, step_is, own_learns_nothing, own_reads_nothing, foreign_reads, no_slot, short_pos, short_same}
 

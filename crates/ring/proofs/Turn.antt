@@ -6,19 +6,21 @@ use Prim.Native.Nat.{ℕ, ◌+◌, ◌*◌, ◌-◌, ◌/◌, ◌<◌, ◌≤◌
 use native.Mathlib.Omega.{arith}
 use lib.ListN.{get_or, set, length}
 use Rattle.order.specs.Trace.{next}
-use Rattle.model.specs.File.{byte_at, schedule_at, schedule_of}
+use Rattle.model.specs.File.{byte_at, total, pop_sizes, schedule_at, schedule_of}
 use Rattle.model.specs.Run.{refused, first_ring, shape_of}
 use Rattle.model.specs.Report.{of_ring}
 use Rattle.model.specs.computed.Machine.{step}
 use Rattle.ring.specs.declared.state.Ring.{Ring}
 use Rattle.ring.specs.declared.state.Ran.{Ran}
-use Rattle.ring.specs.computed.State.{fresh_of}
-use Rattle.ring.specs.computed.Run.{next_place, put_byte, Ready, Finished}
-use Rattle.ring.proofs.Buffers.{mul_le, placed}
+use Rattle.ring.specs.computed.State.{fresh_of, core_at}
+use Rattle.ring.specs.computed.Reads.{size_at, byte_for}
+use Rattle.ring.specs.computed.Moves.{own_load, foreign_load, data_access, index_store}
+use Rattle.ring.specs.computed.Run.{who_of, next_place, put_byte, Ready, Finished}
+use Rattle.ring.proofs.Buffers.{mul_le, all_placed}
 use Rattle.ring.proofs.Parts.{site_of, Good, good}
 use Rattle.ring.proofs.Join.{Joined}
 use Rattle.ring.proofs.Site.{here}
-use Rattle.ring.proofs.Entry.{answer, GoesOne, verdict}
+use Rattle.ring.proofs.Entry.{answer, GoesOne, verdict, own_arm, foreign_arm, data_arm, index_arm}
 use Rattle.ring.proofs.Loop.{results_to, end_to, entry_at, Going, going_none, all_mine, going_refused, going_moved, finished}
 use Rattle.ring.proofs.Share.{performed_le}
 use Rattle.ring.proofs.Share as share
@@ -54,7 +56,10 @@ module _ {f : List ℕ} {at n each : ℕ} {marks₀ out₀ marks out : List ℕ}
   left = omega (arith, z.ready.n_is)
 
   fit : each ≡ 1 → length (schedule_of f) ≤ length marks₀
-  fit e = omega (arith, z.ready.marks_fit e, z.ready.n_is)
+  fit e = omega (arith, all_placed each n (length marks₀) z.ready.marks_fit e, z.ready.n_is)
+
+  fits : each ≡ 1 → total (pop_sizes f) ≤ length out₀
+  fits = all_placed each (total (pop_sizes f)) (length out₀) z.ready.out_fits
 
   the_core : core ≡ byte_at f (schedule_at f + 2 * i)
   the_core = ec ∙ ap (λ (j : ℕ). get_or f (j + 2 * i) 0) z.ready.at_is
@@ -68,7 +73,7 @@ module _ {f : List ℕ} {at n each : ℕ} {marks₀ out₀ marks out : List ℕ}
   refused_turns h marks' em = record {
     fine = z.fine;
     ready = z.ready;
-    going = rw em (going_refused z.fine z.going fit z.ready.out_fits left v (ev ∙ rw (the_core, the_age) refl) h);
+    going = rw em (going_refused z.fine z.going fit fits left v (ev ∙ rw (the_core, the_age) refl) h);
   }
 
   pub goes_on : v ≡ 0 → GoesOne f s (end_to f i) core age
@@ -83,20 +88,36 @@ module _ {f : List ℕ} {at n each : ℕ} {marks₀ out₀ marks out : List ℕ}
   pub number_is : next (end_to f i).trace ≡ i + 1
   number_is = omega (arith, z.going.marked.entries_are)
 
+  -- The move that was made joins the definition's step: for each phase of the core whose place is w.
+  module _ (h : v ≡ 0) (w : ℕ) (ew : w ≡ who_of core) (s' : Ring) where
+    abbrev Joins : Type 0
+    Joins = Joined (site_of f) s' (here (end_to f i) first_ring) (of_ring first_ring (results_to f i)) (step (shape_of f) (end_to f i) (record { core = core; age = age }))
+
+    pub own_joins : (core_at s w).phase ≡ 0 → (size : ℕ) → size ≡ size_at f w (core_at s w).batch → s' ≡ own_load s w size → Joins
+    own_joins p size es e = rw (e, es) (own_arm z.fine z.going.share.rep core age (goes_on h) w ew p)
+
+    pub foreign_joins : (core_at s w).phase ≡ 1 → s' ≡ foreign_load s w age → Joins
+    foreign_joins p e = rw e (foreign_arm z.fine z.going.share.rep core age (goes_on h) w ew p)
+
+    pub data_joins : (core_at s w).phase ≡ 2 → (byte : ℕ) → byte ≡ byte_for f w (core_at s w).passed (core_at s w).moved → s' ≡ data_access s w byte (i + 1) → Joins
+    data_joins p byte eb e = rw (e, eb, ← number_is) (data_arm z.fine z.going.share.rep core age (goes_on h) w ew p)
+
+    pub index_joins : ¬ ((core_at s w).phase ≡ 0) → ¬ ((core_at s w).phase ≡ 1) → ¬ ((core_at s w).phase ≡ 2) → s' ≡ index_store s w (i + 1) → Joins
+    index_joins a b c e = rw (e, ← number_is) (index_arm z.fine z.going.share.rep core age (goes_on h) w ew a b c)
+
   module _ {s' : Ring} (j : Joined (site_of f) s' (here (end_to f i) first_ring) (of_ring first_ring (results_to f i)) (step (shape_of f) (end_to f i) (record { core = core; age = age }))) where
     joined_here : Joined (site_of f) s' (here (end_to f i) first_ring) (of_ring first_ring (results_to f i)) (step (shape_of f) (end_to f i) (entry_at f i))
     joined_here = rw (the_core, the_age) at j
 
     pub place_here : s'.mark ≡ 5 → k * each < length out
-    place_here e = placed k each (total (pop_sizes f)) (length out) (share.place_in z.going.share joined_here e) z.ready.each_le
-        (λ o. omega (arith, z.ready.some o, z.going.share.out_same)) (λ o. omega (arith, z.ready.out_fits o, z.going.share.out_same))
+    place_here e = omega (arith, z.ready.out_fits k (share.place_in z.going.share joined_here e), z.going.share.out_same)
 
     pub moved_turns : (marks' out' : List ℕ) (k' : ℕ) → marks' ≡ set marks (i * each) s'.mark → out' ≡ put_byte out (k * each) s'.mark s'.byte
         → k' ≡ next_place k s'.mark → Turning f at n each marks₀ out₀ marks' out' s' (performed + 1) k' (i + 1)
     moved_turns marks' out' k' em eo ek = record {
       fine = z.fine;
       ready = z.ready;
-      going = rw (em, eo, ek) (going_moved z.fine z.going fit z.ready.out_fits left joined_here);
+      going = rw (em, eo, ek) (going_moved z.fine z.going fit fits left joined_here);
     }
 
 after_header : (f : List ℕ) → 8 ≤ schedule_at f
@@ -117,10 +138,8 @@ module _ {f : List ℕ} {at n each : ℕ} {marks₀ out₀ marks out : List ℕ}
 
   -- Each mark has its place.
   pub mark_place : i < n → (i * each < length marks) × (i * each < 65536)
-  mark_place more = let few : i * each ≤ i = mul_le i each z.ready.each_le in (
-    placed i each n (length marks) more z.ready.each_le (λ o. omega (arith, z.ready.some o, marks_length)) (λ o. omega (arith, z.ready.marks_fit o, marks_length)),
-    omega (arith, few_entries),
-  )
+  mark_place more = let few : i * each ≤ i = mul_le i each z.ready.each_le in
+      (omega (arith, z.ready.marks_fit i more, marks_length), omega (arith, few_entries))
 
   -- The place in out is at most the sum of the pop sizes.
   pub place_lt : k < 65536

@@ -13,7 +13,7 @@ const ENTRY: u64 = 256;
 const PARTNER: u64 = 4294967296;
 
 // A file was refused, with its code; or it was run, and this entry raced with this partner, both 0 where none did.
-#[derive(Drop)]
+#[derive(Clone, Copy)]
 pub enum Raced {
     Refused(u32),
     Ran(u16, u16),

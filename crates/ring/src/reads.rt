@@ -14,6 +14,7 @@ pub(crate) fn fresh_ring(file: &[u8]) -> Ring
 }
 
 // The size of a batch of the core: the one place where it is read.
+#[tactic(auto, unfolding(crate::specs::computed::Reads::size_at))]
 pub(crate) fn size_of(file: &[u8], who: usize, batch: u16) -> u16
     ensures { (result ≡ size_at file.now who batch) × (result < 256) }
 {
@@ -24,6 +25,7 @@ pub(crate) fn size_of(file: &[u8], who: usize, batch: u16) -> u16
 }
 
 // The byte that the core's next data access stores: the producer's next byte to push; the consumer stores none.
+#[tactic(auto, unfolding(crate::specs::computed::Reads::byte_for))]
 pub(crate) fn byte_for(file: &[u8], who: usize, passed: u16, moved: u16) -> u8
     ensures { result ≡ byte_for file.now who passed moved }
 {

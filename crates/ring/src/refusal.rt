@@ -7,6 +7,7 @@ use crate::state::{Core, Stores};
 use file::parts::{pop_count, push_count};
 
 // 0, or the refusal's number. A core is looked at only where the entry names it: else the compiler looks at both, at every entry.
+#[tactic(auto, unfolding(crate::specs::computed::Refusal::refusal_of, crate::specs::computed::State::chosen, crate::specs::computed::Run::who_of))]
 pub(crate) fn refusal(
     file: &[u8],
     core: u8,
@@ -32,7 +33,8 @@ pub(crate) fn refusal(
 }
 
 // Why an entry of this core is refused in a machine that runs.
-pub(crate) fn core_refusal(age: u8, batches: u16, c: Core, theirs: Stores) -> u8
+#[tactic(auto, unfolding(crate::specs::computed::Refusal::core_refusal))]
+fn core_refusal(age: u8, batches: u16, c: Core, theirs: Stores) -> u8
     requires { Short theirs }
     ensures { result ≡ core_refusal age batches c theirs }
 {
@@ -50,6 +52,7 @@ pub(crate) fn core_refusal(age: u8, batches: u16, c: Core, theirs: Stores) -> u8
 
 // Why a foreign load is refused: there is no such store, or the core has read a later one, or it is hidden. One comparison is for the first two,
 // and only where it holds another tells which.
+#[tactic(auto, unfolding(crate::specs::computed::Refusal::load_refusal, crate::specs::computed::State::out_of_reach))]
 fn load_refusal(age: u8, known: u16, read: u16, theirs: Stores) -> u8
     requires { Short theirs }
     ensures { result ≡ load_refusal age known read theirs }

@@ -66,6 +66,7 @@ pub(crate) fn run(
 }
 
 // The core's place among the two: 0 for core byte 0, else 1.
+#[tactic(auto, unfolding(crate::specs::computed::Run::who_of))]
 fn who_of(core: u8) -> usize
     ensures { (result ≡ who_of core) × (result < 2) }
 {

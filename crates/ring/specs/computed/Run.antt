@@ -1,5 +1,5 @@
 -- What the run's function asks and leaves, in terms of the model's computed run. Not needed to believe any promise.
-use Rattle.std.specs.Prelude.{◌≡◌, cond, List, ◌++◌, ℕ, ◌+◌, ◌<◌, ◌≤◌, eqb, set, length, drop}
+use Rattle.std.specs.Prelude.{◌≡◌, cond, List, ◌++◌, ℕ, ◌+◌, ◌*◌, ◌<◌, ◌≤◌, eqb, set, length, drop}
 use Rattle.model.specs.File.{total, pop_sizes, schedule_at, schedule_of}
 use Rattle.model.specs.Codes.{Lawful}
 use Rattle.model.specs.Run.{Result, State, first_ring, shape_of, fresh}
@@ -25,16 +25,15 @@ results_of f = results (shape_of f) (fresh f) (schedule_of f)
 abbrev pub end_of : List ℕ → State
 end_of f = ends (shape_of f) (fresh f) (schedule_of f)
 
--- A lawful file, its schedule's place and length, and how far apart the marks lie and the bytes read: 1, or 0 where all go to one place. The
--- buffers, which have these lengths, are long enough.
+-- A lawful file, its schedule's place and length, and how far apart the marks lie and the bytes read: 1, or 0 where all go to one place. Each has a
+-- place in the buffers, which have these lengths.
 pub record Ready (f : List ℕ) (at n each marks out : ℕ) : Type 0 where
   pub lawful : Lawful f
   pub at_is : at ≡ schedule_at f
   pub n_is : n ≡ length (schedule_of f)
   pub each_le : each ≤ 1
-  pub some : each ≡ 0 → (0 < marks) × (0 < out)
-  pub marks_fit : each ≡ 1 → n ≤ marks
-  pub out_fits : each ≡ 1 → total (pop_sizes f) ≤ out
+  pub marks_fit : (i : ℕ) → i < n → i * each < marks
+  pub out_fits : (k : ℕ) → k < total (pop_sizes f) → k * each < out
 
 -- The buffers, where each mark and each byte has its own place, hold those of the computed run; the numbers are its numbers in either case.
 pub record Finished (f : List ℕ) (n each : ℕ) (marks out : List ℕ) (r : Ran) (marks' out' : List ℕ) : Type 0 where
