@@ -1,4 +1,4 @@
-// The library that a C host calls: one entry, which plays a whole run file. Beside it whole-file functions that other crates export, each by itself,
+// The machine over a whole run file: one entry, which plays it. Beside it whole-file functions. Other crates export them to a C host, each by itself,
 // since a second caller of the run in one library would make the first one slower. All else is private to this crate.
 //
 // state: the machine's state. stores: the list of an index's stores. moves: what each action does to the state. refusal: why an entry is
@@ -20,8 +20,7 @@ ghost use Rattle.model.specs.Outcome.{Outcome};
 
 // Plays a run file. The answer is its code; for code 0 the marks, the bytes read and the report stand in the three lent buffers, and for any
 // other code nothing was written.
-#[unsafe(no_mangle)]
-pub extern "C" fn ferrulique_run(
+pub fn ferrulique_run(
     file: &[u8],
     marks: &mut [u8],
     out: &mut [u8],
