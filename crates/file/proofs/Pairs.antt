@@ -64,6 +64,9 @@ module _ (f : List ℕ) (long : 2 * header_bytes ≤ length f) (short : length f
   second-ring z h = first_front (ring_table (drop header_bytes f)) ends h ∙ ring_passed f rest z
       ∙ length_passed (length f) (2 * header_bytes) (ring_table f ++ rest) long short
 
+  pub second_refused : first_of (ring_table f) ≡ 0 → (n : ℕ) → n ≡ first_of (ring_table (take (length f - 8) (drop 8 f))) → ¬ (n ≡ 0) → n ≡ first_of (pair_file_table f)
+  second_refused z n e h = let code = second_code f n e in code ∙ second-ring z (rw code at h)
+
   pub pair_ends : first_of (ring_table f) ≡ 0 → first_of (ring_table (drop header_bytes f)) ≡ 0
       → first_of (end_table (length f) (pair_sizes_end f) (pair_schedule_at f)) ≡ first_of (pair_file_table f)
   unfolding pair_file_table

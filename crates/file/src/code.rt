@@ -8,6 +8,7 @@ use crate::limits::Limits;
 use crate::parts::{modulus_of, order_bits, pop_total, ring_size, schedule_at, sizes_end};
 
 // The code of a file alone, for which no buffer is lent: 0, or 1 to 8.
+#[tactic(auto, unfolding(model::specs::Codes::file_table))]
 pub fn file_code(file: &[u8]) -> u32
     ensures { result ≡ file_code file.now }
 {
@@ -63,6 +64,7 @@ pub(crate) fn end_code(n: usize, sizes: usize, at: usize) -> u32
 }
 
 // The code of a file, for buffers of these lengths.
+#[tactic(auto, using(model::proofs::Codes::file_first))]
 pub fn code_of(file: &[u8], marks: usize, out: usize, report: usize) -> u32
     ensures { result ≡ code_of file.now marks out report }
 {

@@ -66,6 +66,7 @@ pub fn pair_schedule_at(file: &[u8]) -> usize
 }
 
 // The code of a file alone, for which no buffer is lent: 0, or 1 to 8.
+#[tactic(auto, using(crate::proofs::Pairs::second_refused), unfolding(model::specs::PairCodes::pair_file_table))]
 pub fn pair_code(file: &[u8]) -> u32
     ensures { result ≡ first_of (pair_file_table file.now) }
 {
