@@ -2,7 +2,7 @@
 use mathlib.Core.Path.{◌≡◌, refl, sym, ap, ◌∙◌}
 use mathlib.Core.Logic.{◌⊎◌, inl, inr, ⊎_elim}
 use mathlib.Core.Bool.{Bool, true, false, cond}
-use mathlib.Core.List.{List, [], ◌∷◌, ◌++◌}
+use mathlib.Core.List.{List, [], ◌∷◌}
 use Prim.Native.Nat.{ℕ, suc, ◌+◌, ◌≤◌, ◌<◌}
 use native.Mathlib.Omega.{arith}
 use native.Mathlib.Decide.{dec_le}
@@ -16,8 +16,7 @@ use Rattle.model.specs.Codes.{buffer_table, first_of, file_code, Lawful}
 use Rattle.model.specs.Marks.{race_found}
 use Rattle.model.specs.Queue.{Shape}
 use Rattle.model.specs.Run.{Result, State, first_ring, Runs, stop, move, names_one, shape_of, fresh}
-use Rattle.model.specs.Report.{marked, partner_of, race_of, of_ring, report_of, numbers_of, bytes_of}
-use Rattle.model.specs.RaceAnswer.{RaceTold}
+use Rattle.model.specs.Report.{marked, partner_of, race_of, of_ring, numbers_of}
 use Rattle.model.proofs.Codes.{file_most, file_first, buffers_next}
 use Rattle.model.proofs.Halted.{reported_race}
 use Rattle.model.proofs.Inverse.{reads_back}

@@ -17,7 +17,7 @@ use Rattle.model.specs.File.{Entry, total, ring_size, modulus_of, bit, Part, par
 use Rattle.model.specs.Codes.{Lawful}
 use Rattle.model.specs.Marks.{race_found, no_such_core, is_halted}
 use Rattle.model.specs.Queue.{Named, nobody, named, Shape, Queue, pusher, pushes}
-use Rattle.model.specs.Run.{Result, refused, State, after, first_ring, names_one, Entered, Step, Runs, stop, move, machine_of, fresh_side, fresh_of, shape_of, fresh}
+use Rattle.model.specs.Run.{Result, refused, State, after, first_ring, names_one, Entered, Step, Runs, stop, move, machine_of, fresh_side, fresh_of}
 use Rattle.model.specs.Report.{occupancy, of_ring}
 use Rattle.model.proofs.Plan.{planned}
 use Rattle.model.proofs.Rings.{with_either, ActIn, ring_of, step-at, stores_not}

@@ -20,12 +20,7 @@ ghost use Rattle.model.specs.Outcome.{Outcome};
 
 // Plays a run file. The answer is its code; for code 0 the marks, the bytes read and the report stand in the three lent buffers, and for any
 // other code nothing was written.
-pub fn ferrulique_run(
-    file: &[u8],
-    marks: &mut [u8],
-    out: &mut [u8],
-    report: &mut [u8],
-) -> u32
+pub fn ferrulique_run(file: &[u8], marks: &mut [u8], out: &mut [u8], report: &mut [u8]) -> u32
     ensures { Outcome file.now marks.old out.old report.old result marks.new out.new report.new }
 {
     let code = file::code::code_of(file, marks.len(), out.len(), report.len());
