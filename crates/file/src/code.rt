@@ -64,7 +64,6 @@ pub(crate) fn end_code(n: usize, sizes: usize, at: usize) -> u32
 }
 
 // The code of a file, for buffers of these lengths.
-#[tactic(auto, using(model::proofs::Codes::file_first))]
 pub fn code_of(file: &[u8], marks: usize, out: usize, report: usize) -> u32
     ensures { result ≡ code_of file.now marks out report }
 {

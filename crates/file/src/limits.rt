@@ -1,5 +1,5 @@
 // The ranges and limits of a run file, each named once.
-#[derive(Drop)]
+#[derive(Clone, Copy)]
 pub struct Limits {}
 
 impl Limits {

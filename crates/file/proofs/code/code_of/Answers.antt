@@ -1,8 +1,13 @@
 -- The file's own code comes first, then those of the buffers.
 use Rattle.std.proofs.Common.{arith, sym, ◌∙◌, lt-ltb, le-ltb}
 use Rattle.model.proofs.Laid.{lawful_ranges}
+use Rattle.model.proofs.Codes.{file_first}
 use Rattle.file.proofs.Rows.{buffer_tests}
 use Rattle.file.proofs.code.code_of.Goals as goal
+
+pub returns-then-code-ne0 : goal.returns-then-code-ne0
+returns-then-code-ne0 c =
+    c.file_code-code.ensures ∙ file_first c.args.file.now c.args.marks c.args.out c.args.report (λ e. omega (arith, c.file_code-code.ensures, e))
 
 pub overflow_sub-file : goal.overflow_sub-file
 overflow_sub-file c =
