@@ -1,5 +1,4 @@
 -- The crate's laws and proofs, file by file.
-pub mod Pairs
+pub mod Errors
 pub mod Rows
-pub mod Sizes
 pub mod Sums

@@ -1,65 +1,62 @@
--- The tables of codes in the order in which the code tries them: the file's length, its rings, its ends, the buffers.
-use mathlib.Core.Path.{◌≡◌, refl, ap, sym, ◌∙◌}
-use mathlib.Core.Bool.{Bool, true, false, cond, ◌||◌, not}
-use mathlib.Core.List.{List, ◌∷◌, ◌++◌}
-use Prim.Native.Nat.{ℕ, ◌-◌, ◌/◌, ◌<◌, ◌≤◌}
+-- The tables of codes in the order in which the code tries their parts: the file's length, its rings, its ends, the buffers.
+use mathlib.Core.Path.{◌≡◌, sym, ◌∙◌}
+use mathlib.Core.List.{List, ◌++◌}
+use Prim.Native.Nat.{ℕ, ◌*◌}
 use native.Mathlib.Omega.{arith}
-use lib.Dec.{eqb, ltb}
-use lib.ListN.{length, drop, length-drop}
-use borrow.Author.Tests.{eqb-false, le-ltb}
-use Rattle.order.proofs.Trace.{or_none}
-use Rattle.model.specs.Limits.{most_slots, least_modulus, most_modulus, most_order_bits, header_bytes, most_file_bytes, report_bytes}
-use Rattle.model.specs.File.{total, ring_size, modulus_of, order_bits, pop_sizes, sizes_end, schedule_at, schedule_of}
-use Rattle.model.specs.Codes.{Row, row, divides, ring_table, file_table, buffer_table, first_of, file_code, code_of}
-use Rattle.model.proofs.Codes.{buffers_next}
-use Rattle.model.proofs.Laid.{length_pairs}
-use Rattle.model.proofs.Table.{none_applies, first_append, first_front}
-use Rattle.file.specs.Ends.{end_table}
+use lib.ListN.{length, drop}
+use Rattle.model.specs.Limits.{header_bytes}
+use Rattle.model.specs.File.{sizes_end, schedule_at}
+use Rattle.model.specs.Codes.{Row, ring_table, file_table, first_of, file_code}
+use Rattle.model.specs.PairFile.{pair_sizes_end, pair_schedule_at}
+use Rattle.model.specs.PairCodes.{pair_file_table, pair_buffer_table, pair_table, pair_code_of}
+use Rattle.model.proofs.Table.{Nonzero, none_applies, first_append, first_front}
+use Rattle.file.specs.Rows.{length_table, end_table}
 
--- A row of two tests is two rows.
-pub two : (x y : Bool) (a b : ℕ) → cond (x || y) a b ≡ cond x a (cond y a b)
-two true y a b = refl
-two false y a b = refl
+-- Where none of the first rows applies, the code is that of the others.
+passed : (xs ys : List Row) → Nonzero xs → 0 ≡ first_of xs → first_of ys ≡ first_of (xs ++ ys)
+passed xs ys n z = sym (first_append xs ys (none_applies xs n (sym z)))
 
--- A ring's rows do not apply: the code is that of the others.
-pub ring_passed : (f : List ℕ) (ys : List Row) → first_of (ring_table f) ≡ 0 → first_of ys ≡ first_of (ring_table f ++ ys)
-ring_passed f ys h = sym (first_append (ring_table f) ys (none_applies (ring_table f) (omega arith) h))
+-- Of a file whose length is good, the code is that of its ring where that is not 0.
+pub ring_first : (f : List ℕ) → 0 ≡ first_of (length_table (length f) header_bytes) → ¬ (first_of (ring_table f) ≡ 0) → first_of (ring_table f) ≡ file_code f
+unfolding file_table
+ring_first f long h =
+    let ends = end_table (length f) (sizes_end f) (schedule_at f) in
+    first_front (ring_table f) ends h ∙ passed (length_table (length f) header_bytes) (ring_table f ++ ends) (omega arith) long
 
--- A ring's rows, of the numbers that the code has read.
-pub ring_rows : (f : List ℕ) (m M b : ℕ) → m ≡ ring_size f → M ≡ modulus_of f → b ≡ order_bits f
-    → first_of (ring_table f) ≡ cond (eqb m 0 || ltb most_slots m) 3 (cond (ltb M least_modulus || ltb most_modulus M) 4
-    (cond (not (divides m M) || eqb M m) 5 (cond (ltb most_order_bits b) 6 0)))
-ring_rows f m M b p q r = rw (p, q, r)
-
--- A size that is not bad is above 0.
-pub size_pos : (m : ℕ) → (eqb m 0 || ltb most_slots m) ≡ false → 0 < m
-size_pos m h = let n = eqb-false m 0 (or_none (eqb m 0) (ltb most_slots m) h).0 in omega arith
-
--- The rows about the length do not apply.
-pub length_passed : (n least : ℕ) (xs : List Row) → least ≤ n → n ≤ most_file_bytes → first_of xs ≡ first_of (row 1 (ltb n least) ∷ row 2 (ltb most_file_bytes n) ∷ xs)
-length_passed n least xs l m = rw (le-ltb n least l, le-ltb most_file_bytes n m)
-
--- Of a file whose length is good: its ring's code, and then that of its ends.
-module _ (f : List ℕ) (long : header_bytes ≤ length f) (short : length f ≤ most_file_bytes) where
+-- Of a pair's file whose length is good: the first ring's code, then the second's, then that of its ends.
+module _ (f : List ℕ) (long : 0 ≡ first_of (length_table (length f) (2 * header_bytes))) where
   abbrev ends : List Row
-  ends = end_table (length f) (sizes_end f) (schedule_at f)
+  ends = end_table (length f) (pair_sizes_end f) (pair_schedule_at f)
 
-  pub ring_first : ¬ (first_of (ring_table f) ≡ 0) → first_of (ring_table f) ≡ file_code f
-  unfolding file_table
-  ring_first h = first_front (ring_table f) ends h ∙ length_passed (length f) header_bytes (ring_table f ++ ends) long short
+  abbrev second : List Row
+  second = ring_table (drop header_bytes f)
 
-  pub ends_next : first_of (ring_table f) ≡ 0 → first_of (end_table (length f) (sizes_end f) (schedule_at f)) ≡ file_code f
-  unfolding file_table
-  ends_next h = ring_passed f ends h ∙ length_passed (length f) header_bytes (ring_table f ++ ends) long short
+  from_first : first_of (ring_table f ++ (second ++ ends)) ≡ first_of (pair_file_table f)
+  unfolding pair_file_table
+  from_first = passed (length_table (length f) (2 * header_bytes)) (ring_table f ++ (second ++ ends)) (omega arith) long
 
--- The tests of the buffers' lengths, after those of the file.
-module _ (f : List ℕ) (marks out report : ℕ) where
-  entries : length (schedule_of f) ≡ (length f - schedule_at f) / 2
-  unfolding schedule_of
-  entries = length_pairs (drop (schedule_at f) f) ∙ ap (λ n. n / 2) (length-drop (schedule_at f) f)
+  from_second : 0 ≡ first_of (ring_table f) → first_of (second ++ ends) ≡ first_of (pair_file_table f)
+  from_second z = passed (ring_table f) (second ++ ends) (omega arith) z ∙ from_first
 
-  pub buffer_tests : file_code f ≡ 0
-      → code_of f marks out report
-      ≡ cond (ltb marks ((length f - schedule_at f) / 2)) 9 (cond (ltb out (total (pop_sizes f))) 10 (cond (ltb report report_bytes) 11 0))
-  unfolding buffer_table
-  buffer_tests h = buffers_next f marks out report h ∙ rw entries
+  pub pair_ring_first : ¬ (first_of (ring_table f) ≡ 0) → first_of (ring_table f) ≡ first_of (pair_file_table f)
+  pair_ring_first h = first_front (ring_table f) (second ++ ends) h ∙ from_first
+
+  pub second_refused : 0 ≡ first_of (ring_table f) → ¬ (first_of second ≡ 0) → first_of second ≡ first_of (pair_file_table f)
+  second_refused z h = first_front second ends h ∙ from_second z
+
+  pub pair_ends : 0 ≡ first_of (ring_table f) → 0 ≡ first_of second → first_of ends ≡ first_of (pair_file_table f)
+  pair_ends z h = passed second ends (omega arith) h ∙ from_second z
+
+-- With buffers: the file's own code comes first, then theirs.
+module _ (f : List ℕ) (marks out₁ report₁ out₂ report₂ : ℕ) where
+  pub pair_file_first : ¬ (first_of (pair_file_table f) ≡ 0) → first_of (pair_file_table f) ≡ pair_code_of f marks out₁ report₁ out₂ report₂
+  unfolding pair_code_of pair_table
+  pair_file_first h = first_front (pair_file_table f) (pair_buffer_table f marks out₁ report₁ out₂ report₂) h
+
+  clear : 0 ≡ first_of (pair_file_table f) → first_of (pair_buffer_table f marks out₁ report₁ out₂ report₂) ≡ first_of (pair_table f marks out₁ report₁ out₂ report₂)
+  unfolding pair_file_table pair_table
+  clear z = passed (pair_file_table f) (pair_buffer_table f marks out₁ report₁ out₂ report₂) (omega arith) z
+
+  pub pair_buffers : 0 ≡ first_of (pair_file_table f) → first_of (pair_buffer_table f marks out₁ report₁ out₂ report₂) ≡ pair_code_of f marks out₁ report₁ out₂ report₂
+  unfolding pair_code_of
+  pair_buffers z = clear z

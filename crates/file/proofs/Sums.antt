@@ -1,32 +1,19 @@
--- The running sum over a part of the file.
-use mathlib.Core.Path.{◌≡◌, refl, ap, sym, ◌∙◌}
-use mathlib.Core.List.{List}
-use Prim.Native.Nat.{ℕ, ◌+◌, ◌-◌, ◌<◌, ◌≤◌}
+-- A sum of sizes is a sum of numbers, and of few bytes it is small.
+use mathlib.Core.Path.{◌≡◌, refl}
+use mathlib.Core.List.{List, [], ◌∷◌}
+use Prim.Native.Nat.{ℕ, ◌*◌, ◌<◌, ◌≤◌}
 use native.Mathlib.Omega.{arith}
-use native.Mathlib.Numerals.{add-one}
-use lib.ListN.{length, get_or, take, drop, length-drop, drop_of_length-le}
-use lib.Seq.{get_or-drop, take_all, take-nil}
+use lib.ListN.{length, get_or}
+use lib.Seq.{take_all}
+use Rattle.std.specs.List.{sum}
+use Rattle.std.proofs.lemmas.List.Sums.{sum_by-cons}
 use Rattle.model.specs.File.{total}
-use Rattle.model.proofs.Total.{total_take_suc}
+use Rattle.model.proofs.Total.{total_small}
 
-pub sum_none : (f : List ℕ) (from : ℕ) → 0 ≡ total (take 0 (drop from f))
+pub total_is : (l : List ℕ) → sum l ≡ total l
 unfolding total
-sum_none f from = refl
+total_is [] = refl
+total_is (x ∷ l) = rw (sum_by-cons (λ (n : ℕ). n) x l, total_is l)
 
--- One byte more.
-pub sum_more : (f : List ℕ) (from j : ℕ) → from + j < length f
-    → total (take j (drop from f)) + get_or f (from + j) 0 ≡ total (take (j + 1) (drop from f))
-sum_more f from j h =
-    let l : j < length (drop from f) = rw length-drop (omega arith) in
-    rw (add-one j, total_take_suc (drop from f) j l, get_or-drop)
-
--- A part that begins past the end.
-pub sum_past : (f : List ℕ) (from n : ℕ) → length f ≤ from → 0 ≡ total (take n (drop from f))
-unfolding total
-sum_past f from n h = rw (drop_of_length-le f h, take-nil n)
-
--- A part that ends past the end.
-pub sum_rest : (f : List ℕ) (from n : ℕ) → length f - from < n → total (take (length f - from) (drop from f)) ≡ total (take n (drop from f))
-sum_rest f from n h =
-    let e = length-drop from f in
-    ap total (take_all (length f - from) (drop from f) (omega (arith, e)) ∙ sym (take_all n (drop from f) (omega (arith, e))))
+pub total_low : (l : List ℕ) → ((k : ℕ) → get_or l k 0 < 256) → length l < 256 → total l ≤ 255 * 255
+total_low l h few = let short : length l ≤ 255 = omega arith in rw (take_all 255 l short) at (total_small l 255 h)

@@ -1,3 +1,4 @@
 -- The crate's definitions, file by file.
-pub mod Ends
+pub mod Errors
 pub mod Layout
+pub mod Rows

@@ -3,13 +3,13 @@ ghost use Rattle.std.specs.Prelude.{◌≡◌, ◌+◌, ◌*◌, ◌<◌, ◌≤
 ghost use Rattle.model.specs.File.{byte_at, total, ring_size, modulus_of, order_bits, push_count, pop_count, push_sizes, pop_sizes, sizes_end, schedule_at};
 
 use crate::limits::Limits;
-use little::{byte_at, get4};
+use little::{byte_at, bytes_from, get4};
 
 // The ring size, m.
 pub fn ring_size(file: &[u8]) -> u32
     ensures { result ≡ ring_size file.now }
 {
-    byte_at(file, 0) as u32
+    u32::from(byte_at(file, 0))
 }
 
 // The index modulus, M.
@@ -23,51 +23,43 @@ pub fn modulus_of(file: &[u8]) -> u32
 pub fn order_bits(file: &[u8]) -> u16
     ensures { result ≡ order_bits file.now }
 {
-    byte_at(file, 5) as u16
+    u16::from(byte_at(file, 5))
 }
 
-// How many push batches there are.
-pub fn push_count(file: &[u8]) -> u16
-    ensures { (result ≡ push_count file.now) × (result < 256) }
+// How many push batches there are. Each pair of a push and a pop part is a line over one function, under the names that callers have.
+pub fn push_count(file: &[u8]) -> u8
+    ensures { result ≡ push_count file.now }
 {
-    wide(byte_at(file, 6))
+    byte_at(file, 6)
 }
 
 // How many pop batches there are.
-pub fn pop_count(file: &[u8]) -> u16
-    ensures { (result ≡ pop_count file.now) × (result < 256) }
+pub fn pop_count(file: &[u8]) -> u8
+    ensures { result ≡ pop_count file.now }
 {
-    wide(byte_at(file, 7))
+    byte_at(file, 7)
 }
 
 // The size of a push batch, by its number from 0; 0 past the last.
-pub fn push_size(file: &[u8], batch: u16) -> u16
-    ensures { (result ≡ get_or (push_sizes file.now) batch 0) × (result < 256) }
+pub fn push_size(file: &[u8], batch: u16) -> u8
+    ensures { result ≡ get_or (push_sizes file.now) batch 0 }
 {
-    if push_count(file) <= batch {
-        return 0;
-    }
-    wide(byte_at(file, Limits::HEADER + batch as usize))
+    byte_at(push_sizes(file), usize::from(batch))
 }
 
 // The size of a pop batch, by its number from 0; 0 past the last.
-pub fn pop_size(file: &[u8], batch: u16) -> u16
-    ensures { (result ≡ get_or (pop_sizes file.now) batch 0) × (result < 256) }
+pub fn pop_size(file: &[u8], batch: u16) -> u8
+    ensures { result ≡ get_or (pop_sizes file.now) batch 0 }
 {
-    if pop_count(file) <= batch {
-        return 0;
-    }
-    wide(byte_at(
-        file,
-        Limits::HEADER + push_count(file) as usize + batch as usize,
-    ))
+    byte_at(pop_sizes(file), usize::from(batch))
 }
 
 // Where the sizes end and the bytes to push begin.
 pub fn sizes_end(file: &[u8]) -> usize
-    ensures { (result ≡ sizes_end file.now) × (result < 519) }
+    ensures value { result ≡ sizes_end file.now }
+    ensures low { result < 519 }
 {
-    Limits::HEADER + push_count(file) as usize + pop_count(file) as usize
+    pop_sizes_at(file) + usize::from(pop_count(file))
 }
 
 // The byte that lies this many places after the end of the sizes: a byte to push, where it is one of those.
@@ -78,55 +70,60 @@ pub fn byte_after_sizes(file: &[u8], k: u32) -> u8
 }
 
 // Where the schedule begins.
+#[tactic(auto, unfolding(model::specs::File::schedule_at))]
 pub fn schedule_at(file: &[u8]) -> usize
     ensures { result ≡ schedule_at file.now }
 {
-    sizes_end(file) + sum_within(file, Limits::HEADER, push_count(file) as usize)
+    sizes_end(file) + total(push_sizes(file))
 }
 
 // The sum of the pop sizes.
 pub fn pop_total(file: &[u8]) -> usize
     ensures { result ≡ total (pop_sizes file.now) }
 {
-    sum_within(
-        file,
-        Limits::HEADER + push_count(file) as usize,
-        pop_count(file) as usize,
-    )
+    total(pop_sizes(file))
 }
 
-// The sum of as many of n bytes as the file has.
-pub(crate) fn sum_within(file: &[u8], from: usize, n: usize) -> usize
-    requires { n < 256 }
-    ensures { (result ≡ total (take n (drop from file.now))) × (result ≤ 255 * 255) }
+// The push sizes, as many as the file has.
+#[tactic(auto, unfolding(model::specs::File::push_sizes))]
+fn push_sizes(file: &[u8]) -> &[u8]
+    ensures value { result.now ≡ push_sizes file.now }
+    ensures few { length result.now < 256 }
 {
-    let end = file.len();
-    if end <= from {
-        return 0;
-    }
-    if end - from < n {
-        return sum_of(file, from, end - from);
-    }
-    sum_of(file, from, n)
+    part(file, Limits::HEADER, push_count(file))
 }
 
-// The sum of n bytes of the file.
-fn sum_of(file: &[u8], from: usize, n: usize) -> usize
-    requires { (from + n ≤ length file.now) × (n < 256) }
-    ensures { (result ≡ total (take n (drop from file.now))) × (result ≤ 255 * n) }
+// The pop sizes, as many as the file has.
+#[tactic(auto, unfolding(model::specs::File::pop_sizes))]
+fn pop_sizes(file: &[u8]) -> &[u8]
+    ensures value { result.now ≡ pop_sizes file.now }
+    ensures few { length result.now < 256 }
 {
-    let mut sum: usize = 0;
-    let mut j: usize = 0;
-    while j < n {
-        sum += wide(file[from + j]) as usize;
-        j += 1;
-    }
-    sum
+    part(file, pop_sizes_at(file), pop_count(file))
 }
 
-// A byte as a count.
-pub(crate) fn wide(x: u8) -> u16
-    ensures { (result ≡ x) × (result < 256) }
+// Where the pop sizes begin.
+fn pop_sizes_at(file: &[u8]) -> usize
+    ensures value { result ≡ 8 + push_count file.now }
+    ensures low { result < 264 }
 {
-    x as u16
+    Limits::HEADER + usize::from(push_count(file))
+}
+
+// The n bytes of the file from a place on, as many as it has of those.
+pub(crate) fn part(file: &[u8], from: usize, n: u8) -> &[u8]
+    ensures value { result.now ≡ take n (drop from file.now) }
+    ensures few { length result.now < 256 }
+{
+    let rest = bytes_from(file, from);
+    &rest[..rest.len().min(usize::from(n))]
+}
+
+// The sum of some sizes.
+pub(crate) fn total(sizes: &[u8]) -> usize
+    requires { length sizes.now < 256 }
+    ensures value { result ≡ total sizes.now }
+    ensures low { result ≤ 255 * 255 }
+{
+    sizes.iter().map(|size| usize::from(*size)).sum()
 }

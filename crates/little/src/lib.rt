@@ -2,7 +2,7 @@
 // read, and a number that does not fit is not written.
 #![tactic(auto)]
 
-ghost use Rattle.std.specs.Prelude.{◌≡◌, ◌%◌, ◌<◌};
+ghost use Rattle.std.specs.Prelude.{◌≡◌, take, drop};
 ghost use Rattle.model.specs.File.{byte_at, number4};
 ghost use Rattle.little.specs.Little.{put4_of};
 
@@ -10,52 +10,34 @@ ghost use Rattle.little.specs.Little.{put4_of};
 pub fn byte_at(bytes: &[u8], at: usize) -> u8
     ensures { result ≡ byte_at bytes.now at }
 {
-    if at < bytes.len() {
-        return bytes[at];
-    }
-    0
+    bytes.get(at).copied().unwrap_or(0)
+}
+
+// The bytes from a place on, none past the end.
+pub fn bytes_from(bytes: &[u8], at: usize) -> &[u8]
+    ensures { result.now ≡ drop at bytes.now }
+{
+    &bytes[at.min(bytes.len())..]
 }
 
 // The number in the four bytes from a place on.
 pub fn get4(bytes: &[u8], at: usize) -> u32
     ensures { result ≡ number4 bytes.now at }
 {
-    if bytes.len() <= at {
-        return 0;
-    }
-    wide(byte_at(bytes, at))
-        + (wide(byte_at(bytes, at + 1))
-            + (wide(byte_at(bytes, at + 2)) + wide(byte_at(bytes, at + 3)) * 256) * 256)
-            * 256
+    let four = bytes_from(bytes, at);
+    u32::from_le_bytes([
+        byte_at(four, 0),
+        byte_at(four, 1),
+        byte_at(four, 2),
+        byte_at(four, 3),
+    ])
 }
 
 // A number into the four bytes from a place on, where there are four.
 pub fn put4(bytes: &mut [u8], at: usize, x: u32)
     ensures { bytes.new ≡ put4_of bytes.old at x }
 {
-    let n = bytes.len();
-    if n < 4 {
-        return;
+    if at.saturating_add(4) <= bytes.len() {
+        bytes[at..at + 4].copy_from_slice(&x.to_le_bytes());
     }
-    if n - 4 < at {
-        return;
-    }
-    bytes[at] = byte_of(x);
-    bytes[at + 1] = byte_of(x / 256);
-    bytes[at + 2] = byte_of(x / 256 / 256);
-    bytes[at + 3] = byte_of(x / 256 / 256 / 256);
-}
-
-// The lowest byte of a number.
-fn byte_of(x: u32) -> u8
-    ensures { result ≡ x % 256 }
-{
-    (x % 256) as u8
-}
-
-// A byte as a wider number.
-fn wide(x: u8) -> u32
-    ensures { (result ≡ x) × (result < 256) }
-{
-    x as u32
 }

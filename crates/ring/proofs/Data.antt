@@ -2,7 +2,7 @@
 use mathlib.Core.Path.{◌≡◌, refl, ap, sym, ◌∙◌, subst}
 use mathlib.Core.Bool.{Bool, true, false, cond}
 use mathlib.Core.Option.{some}
-use mathlib.Core.List.{List, [], ◌∷◌, ◌++◌}
+use mathlib.Core.List.{List, [], ◌∷◌, ◌++◌, append-nil}
 use Prim.Native.Nat.{ℕ, suc, ◌+◌, ◌%◌, ◌<◌}
 use native.Mathlib.Omega.{arith}
 use native.Mathlib.Nat.{mod-lt, mod-eq_of_lt}
@@ -18,31 +18,34 @@ use Rattle.model.specs.Queue.{moving, Queue, pushes}
 use Rattle.model.specs.Plan as pl
 use Rattle.model.specs.Run.{Result, performed, raced}
 use Rattle.model.specs.computed.Machine.{decided}
+use Rattle.std.specs.Prelude.{Some}
+use Rattle.ring.specs.declared.who.Who.TheVariants.{Producer, Consumer}
+use Rattle.ring.specs.declared.marks.Performed.TheVariants.{DataStored, DataLoaded}
 use Rattle.ring.specs.declared.state.Slot.{Slot}
 use Rattle.ring.specs.declared.state.Core as rc
 use Rattle.ring.specs.declared.state.Stores.{Stores}
 use Rattle.ring.specs.declared.state.Ring.{Ring}
+use Rattle.ring.specs.computed.Who.{chosen}
+use Rattle.ring.specs.computed.Marks.{performed_mark, last_byte}
 use Rattle.ring.specs.computed.State.{fresh_slot, fresh_core, core_at}
 use Rattle.ring.specs.computed.Moves as mv
-use Rattle.ring.proofs.Site.{Site, part, shape, producer, consumer, seat_of, seat, sizes_of, Fit, Local, step_at}
+use Rattle.ring.proofs.Site.{Site, part, shape, producer, consumer, seat_of, whom, seat, sizes_of, Fit, Local, step_at}
 use Rattle.ring.proofs.Parts.{batches_cons, progress, phase_after_move}
 use Rattle.ring.proofs.Lists.{listed_old}
 use Rattle.ring.proofs.Rep.{list_same, read_kept, CoreRep, Bytes, Lately, Rep, put_same, put_other}
 use Rattle.ring.proofs.Cells.{bytes_stored, bytes_loaded, lately_stored, lately_loaded}
 use Rattle.ring.proofs.Kept.{moved_kept, raced_kept}
-use Rattle.ring.proofs.Join.{Joined, read_of, no_more, step_is}
+use Rattle.ring.proofs.Join.{Joined, read_of, step_is}
 
 -- The ring after a data access of slot y, by whether it races with entry i.
 abbrev accessed : Site → Ring → Core → (y : ℕ) → Bool → (i byte entry : ℕ) → Ring
 accessed u s c y b i byte entry = record {
   size = s.size;
   modulus = s.modulus;
-  race = mv.if_races b entry;
-  partner = mv.if_races b i;
-  bits = s.bits;
-  mark = mv.access_mark b (seat u c);
-  byte = (get_or s.slots y fresh_slot).byte % 256;
-  slots = set s.slots y (mv.accessed (get_or s.slots y fresh_slot) b (seat u c) byte entry);
+  race = mv.race_with b entry i;
+  orders = s.orders;
+  last = Some (mv.access_did b (whom u c) ((get_or s.slots y fresh_slot).byte % 256));
+  slots = set s.slots y (mv.accessed (get_or s.slots y fresh_slot) b (whom u c) byte entry);
   cores = set s.cores (seat u c) (mv.moved_on (core_at s (seat u c)) b);
   back = s.back;
   front = s.front;
@@ -56,11 +59,13 @@ record IsAccess (u : Site) (c : Core) (a : Act) : Type 0 where
   no_read : reads c (index u.ring (other c)) a ≡ 0
 
 -- Its mark, where it does not race, is neither a race's nor a failed batch's.
-access_marks : (u : Site) (c : Core) → (mv.access_mark false (seat u c) < race_found) × (eqb (mv.access_mark false (seat u c)) batch_failed ≡ false)
-unfolding mv.access_mark
-access_marks u c = go (pushes u.ring c)
+access_marks : (u : Site) (c : Core) (v : ℕ)
+    → (performed_mark (mv.access_did false (whom u c) v) < race_found) × (eqb (performed_mark (mv.access_did false (whom u c) v)) batch_failed ≡ false)
+unfolding mv.access_did
+access_marks u c v = go (pushes u.ring c)
   where
-    go : (b : Bool) → (cond (eqb (cond b 0 1) 0) data_stored data_loaded < race_found) × (eqb (cond (eqb (cond b 0 1) 0) data_stored data_loaded) batch_failed ≡ false)
+    go : (b : Bool) → (performed_mark (chosen (cond b Producer Consumer) DataStored (DataLoaded v)) < race_found)
+        × (eqb (performed_mark (chosen (cond b Producer Consumer) DataStored (DataLoaded v))) batch_failed ≡ false)
     go true = (omega arith, refl)
     go false = (omega arith, refl)
 
@@ -120,8 +125,8 @@ module _ {u : Site} (g : Fit u) {s : Ring} {st : Local} {xs : List Result} (r : 
   moved_facts = (refl, refl, refl, refl, refl, refl, refl)
 
   data_ring : (y i byte entry : ℕ) → y ≡ pl.slot_of (shape u) u.ring (st.queue.side c).own (core_at s (seat u c)).moved
-      → i ≡ mv.rival_of (get_or s.slots y fresh_slot) (seat u c)
-      → mv.data_access s (seat u c) byte entry ≡ accessed u s c y (ltb (know (shape u).orders st.trace c) i) i byte entry
+      → i ≡ mv.rival_of (get_or s.slots y fresh_slot) (whom u c)
+      → mv.data_access s (whom u c) byte entry ≡ accessed u s c y (ltb (know (shape u).orders st.trace c) i) i byte entry
   unfolding mv.data_access
   data_ring y i byte entry ey ei =
       let k : mv.slot_of (core_at s (seat u c)).own (core_at s (seat u c)).moved s.size ≡ y = slot_eq (core_at s (seat u c)).own (st.queue.side c).own (core_at s (seat u c)).moved s.size (r.core_is c).own_is r.size_is ∙ sym ey in
@@ -156,22 +161,26 @@ module _ {u : Site} (g : Fit u) {s : Ring} {st : Local} {xs : List Result} (r : 
   abbrev unraced : (y k v : ℕ) → Ring
   unraced y k v = accessed u s c y false k v (next st.trace)
 
+  -- Its mark.
+  abbrev mark_at : (y : ℕ) → ℕ
+  mark_at y = performed_mark (mv.access_did false (whom u c) ((get_or s.slots y fresh_slot).byte % 256))
+
   -- It does not race: one core moves on, and the slots, the feed and out are those after the access.
   moves_joined : (a : Act) (y k v byte : ℕ) (slots feed out : List ℕ) → IsAccess u c a
       → Bytes (part u).size (unraced y k v).slots slots → Lately u (a ∷ st.trace) (unraced y k v).slots
       → feed ≡ drop ((core_at (unraced y k v) (seat u (producer u))).passed + (core_at (unraced y k v) (seat u (producer u))).moved) (part u).push_bytes
       → length out ≡ (core_at (unraced y k v) (seat u (consumer u))).done + (core_at (unraced y k v) (seat u (consumer u))).moved
-      → out ≡ st.queue.out ++ read_of (unraced y k v)
-      → Joined u (unraced y k v) st xs (performed u.ring (mv.access_mark false (seat u c)) a (after_access byte slots feed out))
-  unfolding after_access mv.if_races
+      → out ≡ st.queue.out ++ read_of (last_byte (unraced y k v).last)
+      → Joined u (unraced y k v) st xs (performed u.ring (mark_at y) a (after_access byte slots feed out))
+  unfolding after_access mv.race_with
   moves_joined a y k v byte slots feed out is bytes lately fed long reads-out =
       let z = moved_facts in
       let same = list_same u s (unraced y k v) refl refl in
-      let m = access_marks u c in
+      let m = access_marks u c ((get_or s.slots y fresh_slot).byte % 256) in
       record {
         rep = moved_kept r h (record {
           shape_same = (refl, refl, refl);
-          unraced = (refl, refl);
+          unraced = refl;
           cores_are = refl;
           sides_are = refl;
           acts = is.acts;
@@ -190,9 +199,9 @@ module _ {u : Site} (g : Fit u) {s : Ring} {st : Local} {xs : List Result} (r : 
           largest_new = rw m.1 (omega (arith, z.5));
         });
         mark_is = refl;
-        performs = le-leb (mv.access_mark false (seat u c)) race_found (omega (arith, m.0));
+        performs = le-leb (mark_at y) race_found (omega (arith, m.0));
         out_is = reads-out;
-        race_is = sym (rw (ne_eqb (mv.access_mark false (seat u c)) race_found (λ z. omega (arith, m.0))));
+        race_is = sym (rw (ne_eqb (mark_at y) race_found (λ z. omega (arith, m.0))));
         of-ring = refl;
         running = h;
       }
@@ -201,12 +210,12 @@ module _ {u : Site} (g : Fit u) {s : Ring} {st : Local} {xs : List Result} (r : 
   access_joined : (a : Act) (y k v : ℕ) (x : Result) → IsAccess u c a
       → Joined u (unraced y k v) st xs x
       → (b : Bool) → Joined u (accessed u s c y b k v (next st.trace)) st xs (cond b (raced u.ring a st.queue k) x)
-  unfolding mv.if_races mv.access_mark mv.accessed mv.moved_on
+  unfolding mv.race_with mv.access_did mv.accessed mv.moved_on
   access_joined a y k v x is j true = record {
     rep = raced_kept r h is.acts is.learns is.no_store is.no_read refl refl refl (set-get_or s.slots y fresh_slot) (set-get_or s.cores (seat u c) fresh_core) refl refl refl;
     mark_is = refl;
     performs = refl;
-    out_is = no_more st.queue.out;
+    out_is = sym (append-nil st.queue.out);
     race_is = refl;
     of-ring = refl;
     running = h;
@@ -234,6 +243,9 @@ consumer_seat u = go (producer u)
     go core0 = refl
     go core1 = refl
 
+producer_whom : (u : Site) → whom u (producer u) ≡ Producer
+producer_whom u = rw (same_self (producer u))
+
 pub consumer_pops : (u : Site) → pushes u.ring (consumer u) ≡ false
 consumer_pops u = go (producer u)
   where
@@ -241,29 +253,32 @@ consumer_pops u = go (producer u)
     go core0 = refl
     go core1 = refl
 
-rival_store : (u : Site) (x : Slot) → mv.rival_of x (seat u (producer u)) ≡ x.loaded
+consumer_whom : (u : Site) → whom u (consumer u) ≡ Consumer
+consumer_whom u = rw (consumer_pops u)
+
+rival_store : (u : Site) (x : Slot) → mv.rival_of x (whom u (producer u)) ≡ x.loaded
 unfolding mv.rival_of
-rival_store u x = rw (producer_seat u)
+rival_store u x = rw (producer_whom u)
 
-rival_load : (u : Site) (x : Slot) → mv.rival_of x (seat u (consumer u)) ≡ x.stored
+rival_load : (u : Site) (x : Slot) → mv.rival_of x (whom u (consumer u)) ≡ x.stored
 unfolding mv.rival_of
-rival_load u x = rw (consumer_seat u)
+rival_load u x = rw (consumer_whom u)
 
-store_mark : (u : Site) → mv.access_mark false (seat u (producer u)) ≡ data_stored
-unfolding mv.access_mark
-store_mark u = rw (producer_seat u)
+store_did : (u : Site) (v : ℕ) → mv.access_did false (whom u (producer u)) v ≡ DataStored
+unfolding mv.access_did
+store_did u v = rw (producer_whom u)
 
-load_mark : (u : Site) → mv.access_mark false (seat u (consumer u)) ≡ data_loaded
-unfolding mv.access_mark
-load_mark u = rw (consumer_seat u)
+load_did : (u : Site) (v : ℕ) → mv.access_did false (whom u (consumer u)) v ≡ DataLoaded v
+unfolding mv.access_did
+load_did u v = rw (consumer_whom u)
 
-stored_slot : (u : Site) (x : Slot) (v e : ℕ) → mv.accessed x false (seat u (producer u)) v e ≡ record { byte = v; stored = e; loaded = x.loaded }
+stored_slot : (u : Site) (x : Slot) (v e : ℕ) → mv.accessed x false (whom u (producer u)) v e ≡ record { byte = v; stored = e; loaded = x.loaded }
 unfolding mv.accessed
-stored_slot u x v e = rw (producer_seat u)
+stored_slot u x v e = rw (producer_whom u)
 
-loaded_slot : (u : Site) (x : Slot) (v e : ℕ) → mv.accessed x false (seat u (consumer u)) v e ≡ record { byte = x.byte; stored = x.stored; loaded = e }
+loaded_slot : (u : Site) (x : Slot) (v e : ℕ) → mv.accessed x false (whom u (consumer u)) v e ≡ record { byte = x.byte; stored = x.stored; loaded = e }
 unfolding mv.accessed
-loaded_slot u x v e = rw (consumer_seat u)
+loaded_slot u x v e = rw (consumer_whom u)
 
 -- The producer's data store.
 module _ {u : Site} (g : Fit u) {s : Ring} {st : Local} {xs : List Result} (r : Rep u s st xs) (h : st.halted ≡ false)
@@ -286,18 +301,18 @@ module _ {u : Site} (g : Fit u) {s : Ring} {st : Local} {xs : List Result} (r : 
       let e : (core_at s (seat u P)).passed + (core_at s (seat u P)).moved + 1 ≡ d.passed + d.moved = omega (arith, z) in
       let cell = stored_slot u (get_or s.slots y fresh_slot) v (next st.trace) in
       subst (λ (n : ℕ). Joined u (accessed u s P y false k v (next st.trace)) st xs
-      (performed u.ring n (store P (slot u.ring y) v) (after_access g r h P more i ep left v (set st.queue.slots y v) (drop 1 st.queue.feed) st.queue.out))) (store_mark u)
+      (performed u.ring n (store P (slot u.ring y) v) (after_access g r h P more i ep left v (set st.queue.slots y v) (drop 1 st.queue.feed) st.queue.out))) (ap performed_mark (store_did u ((get_or s.slots y fresh_slot).byte % 256)))
       (moves_joined g r h P more i ep left (store P (slot u.ring y) v) y k v v (set st.queue.slots y v) (drop 1 st.queue.feed) st.queue.out (stores_slot P)
       (rw cell (bytes_stored u g.slots s.slots st.queue.slots y lt r.bytes_are v (next st.trace) byte_small))
       (rw cell (lately_stored u g.slots s.slots st.queue.slots y lt r.bytes_are st.trace (r.lately h) v))
       (rw (put_same u s.cores P d r.two_cores, r.feed_is)
       (drop-drop 1 ((core_at s (seat u P)).passed + (core_at s (seat u P)).moved) (part u).push_bytes ∙ ap (λ (j : ℕ). drop j (part u).push_bytes) e))
       (rw (put_other u s.cores P d) r.out_long)
-      (rw (store_mark u) (no_more st.queue.out)))
+      (rw (store_did u ((get_or s.slots y fresh_slot).byte % 256)) (sym (append-nil st.queue.out))))
 
   -- 3. THE DATA STORE.
   pub store_joined : (byte : ℕ) → byte ≡ get_or st.queue.feed 0 0
-      → Joined u (mv.data_access s (seat u (producer u)) byte (next st.trace)) st xs (step_at u (producer u) st 0)
+      → Joined u (mv.data_access s (whom u (producer u)) byte (next st.trace)) st xs (step_at u (producer u) st 0)
   unfolding after_access
   store_joined byte eb =
       let t : Trace = st.trace in
@@ -333,7 +348,7 @@ module _ {u : Site} (g : Fit u) {s : Ring} {st : Local} {xs : List Result} (r : 
       let z = moved_facts g r h C more i ep left in
       let cell = loaded_slot u (get_or s.slots y fresh_slot) byte (next st.trace) in
       subst (λ (n : ℕ). Joined u (accessed u s C y false k byte (next st.trace)) st xs
-      (performed u.ring n (load C (slot u.ring y) e) (after_access g r h C more i ep left v st.queue.slots st.queue.feed (st.queue.out ++ (v ∷ []))))) (load_mark u)
+      (performed u.ring n (load C (slot u.ring y) e) (after_access g r h C more i ep left v st.queue.slots st.queue.feed (st.queue.out ++ (v ∷ []))))) (ap performed_mark (load_did u ((get_or s.slots y fresh_slot).byte % 256)))
       (moves_joined g r h C more i ep left (load C (slot u.ring y) e) y k byte v st.queue.slots st.queue.feed (st.queue.out ++ (v ∷ [])) (loads_slot C)
       (rw cell (bytes_loaded u g.slots s.slots st.queue.slots y lt r.bytes_are (next st.trace)))
       (rw cell (lately_loaded u g.slots s.slots st.queue.slots y lt r.bytes_are st.trace (r.lately h) e))
@@ -341,11 +356,11 @@ module _ {u : Site} (g : Fit u) {s : Ring} {st : Local} {xs : List Result} (r : 
       (rw (put_other u s.cores C d)
       (subst (λ (b : Core). st.queue.feed ≡ drop ((core_at s (seat u b)).passed + (core_at s (seat u b)).moved) (part u).push_bytes) (sym (other_other (producer u))) r.feed_is)))
       (rw (put_same u s.cores C d r.two_cores) (length-append st.queue.out (v ∷ []) ∙ omega (arith, r.out_long, z)))
-      (rw (load_mark u) (ap (λ (b : ℕ). st.queue.out ++ (b ∷ []))
+      (rw (load_did u ((get_or s.slots y fresh_slot).byte % 256)) (ap (λ (b : ℕ). st.queue.out ++ (b ∷ []))
       (sym (mod-eq_of_lt (r.bytes_are.byte_lt y lt)) ∙ ap (λ (b : ℕ). b % 256) (sym (r.bytes_are.byte_is y lt))))))
 
   -- 3. THE DATA LOAD.
-  pub load_joined : (byte : ℕ) → Joined u (mv.data_access s (seat u (consumer u)) byte (next st.trace)) st xs (step_at u (consumer u) st 0)
+  pub load_joined : (byte : ℕ) → Joined u (mv.data_access s (whom u (consumer u)) byte (next st.trace)) st xs (step_at u (consumer u) st 0)
   unfolding after_access
   load_joined byte =
       let t : Trace = st.trace in

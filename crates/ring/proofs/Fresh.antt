@@ -10,8 +10,10 @@ use Rattle.order.specs.Trace.{Core, other, index, stores}
 use Rattle.model.specs.File.{total}
 use Rattle.model.specs.Queue.{pushes}
 use Rattle.model.specs.Run.{fresh_side, fresh_of}
+use Rattle.ring.specs.declared.who.Who.TheVariants.{Producer, Consumer}
 use Rattle.ring.specs.declared.state.Slot.{Slot}
 use Rattle.ring.specs.declared.state.Ring.{Ring}
+use Rattle.ring.specs.computed.Who.{core_place}
 use Rattle.ring.specs.computed.State.{fresh_stores, fresh_slots, fresh_slot, fresh_core, fresh_ring, core_at}
 use Rattle.ring.proofs.Site.{Site, part, producer, consumer, seat, sizes_of, Fit, here}
 use Rattle.ring.proofs.Lists.{Listed}
@@ -21,12 +23,9 @@ fresh_listed : (M r : ℕ) → 0 < M → (c : Core) → Listed M [] (index r c) 
 unfolding fresh_stores
 fresh_listed M r pos c = record {
   count_is = refl;
-  values_long = length-replicate {A = ℕ} 256 0;
-  entries_long = length-replicate {A = ℕ} 256 0;
   entry_is = only;
   value_is = λ j h. let e : 1 - 1 - j ≡ 0 = omega arith in rw e refl;
   below = λ j h. let e : 1 - 1 - j ≡ 0 = omega arith in rw e pos;
-  beside = record { value_is = refl; entry_is = refl };
 }
   where
     only : (j : ℕ) → j < 1 → get_elem? (stores [] (index r c)) j ≡ some (get_or (replicate 256 0) (1 - 1 - j) 0)
@@ -60,7 +59,7 @@ fresh_at u = fresh_ring (part u).size (part u).modulus (part u).bits
 core-at : (u : Site) (c : Core) → core_at (fresh_at u) (seat u c) ≡ fresh_core
 core-at u c = go (pushes u.ring c)
   where
-    go : (b : Bool) → get_or (fresh_core ∷ fresh_core ∷ []) (cond b 0 1) fresh_core ≡ fresh_core
+    go : (b : Bool) → get_or (fresh_core ∷ fresh_core ∷ []) (core_place (cond b Producer Consumer)) fresh_core ≡ fresh_core
     go true = refl
     go false = refl
 
@@ -77,8 +76,8 @@ unfolding fresh_stores fresh_slots
 fresh_rep {u} g = record {
   size_is = refl;
   modulus_is = refl;
-  bits_are = refl;
-  quiet = λ _. (refl, refl, refl);
+  orders_are = refl;
+  quiet = λ _. (refl, refl);
   two_cores = refl;
   core_is = λ c. rw (core-at u c) (fresh-core g c);
   list_is = λ c. rw (list_at u c) (fresh_listed (part u).modulus u.ring (omega (arith, g.modulus_low)) c);

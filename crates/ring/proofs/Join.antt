@@ -2,6 +2,7 @@
 use mathlib.Core.Path.{◌≡◌, refl, ap}
 use mathlib.Core.Bool.{Bool, true, false, cond, ◌&&◌}
 use mathlib.Core.List.{List, [], ◌∷◌, ◌++◌}
+use Rattle.std.specs.Prelude.{Option, Some, None}
 use Prim.Native.Nat.{ℕ, ◌+◌, ◌<◌}
 use native.Mathlib.Omega.{arith}
 use lib.Dec.{eqb}
@@ -19,52 +20,49 @@ use Rattle.model.specs.Report.{marked, entry_performed}
 use Rattle.model.specs.computed.Machine.{decided}
 use Rattle.ring.specs.declared.state.Core as rc
 use Rattle.ring.specs.declared.state.Ring.{Ring}
-use Rattle.ring.specs.computed.State.{fresh_core, chosen}
+use Rattle.ring.specs.declared.who.Who.TheVariants.{Producer, Consumer}
+use Rattle.ring.specs.computed.Who.{chosen}
+use Rattle.ring.specs.computed.Marks.{last_mark, last_byte}
+use Rattle.ring.specs.computed.State.{fresh_core}
 use Rattle.ring.specs.computed.Moves as mv
-use Rattle.ring.proofs.Site.{Site, part, shape, producer, consumer, seat_of, seat, Local, onward, entered_at, step_at}
+use Rattle.ring.proofs.Site.{Site, part, shape, producer, consumer, whom_of, whom, seat, Local, onward, entered_at, step_at}
 use Rattle.ring.proofs.Rep.{Rep, put_same, put_other, both}
 
 -- The byte that a move wrote to out.
-abbrev pub read_of : Ring → List ℕ
-read_of s = cond (eqb s.mark 5) (s.byte ∷ []) []
+abbrev pub read_of : Option ℕ → List ℕ
+read_of None = []
+read_of (Some byte) = byte ∷ []
 
 -- A move and a result belong together.
 pub record Joined (u : Site) (s : Ring) (st : Local) (xs : List Result) (x : Result) : Type 0 where
   pub rep : Rep u s (onward st x) (xs ++ (x ∷ []))
-  pub mark_is : s.mark ≡ x.mark
+  pub mark_is : last_mark s.last ≡ x.mark
   pub performs : entry_performed x ≡ true
-  pub out_is : x.queue.out ≡ st.queue.out ++ read_of s
-  pub race_is : s.race ≡ cond (marked race_found x) (next st.trace) 0
+  pub out_is : x.queue.out ≡ st.queue.out ++ read_of (last_byte s.last)
+  pub race_is : s.race ≡ cond (marked race_found x) (Some (record { entry = next st.trace; partner = x.partner })) None
   pub of-ring : x.ring ≡ u.ring
   pub running : st.halted ≡ false
 
-pub no_more : (l : List ℕ) → l ≡ l ++ []
-no_more [] = refl
-no_more (x ∷ xs) = ap (λ (l : List ℕ). x ∷ l) (no_more xs)
-
-pub chosen_is {ℓ} : {A : Type ℓ} (u : Site) (c : Core) (a b : A) → chosen (seat u c) a b ≡ cond (pushes u.ring c) a b
-unfolding chosen
+pub chosen_is : {A : Type 0} (u : Site) (c : Core) (a b : A) → chosen (whom u c) a b ≡ cond (pushes u.ring c) a b
 chosen_is {A = A} u c a b = go (pushes u.ring c)
   where
-    go : (x : Bool) → cond (eqb (cond x 0 1) 0) a b ≡ cond x a b
+    go : (x : Bool) → chosen (cond x Producer Consumer) a b ≡ cond x a b
     go true = refl
     go false = refl
 
-pub chosen_other {ℓ} : {A : Type ℓ} (u : Site) (c : Core) (a b : A) → chosen (seat u c) b a ≡ cond (pushes u.ring (other c)) a b
-unfolding chosen
+pub chosen_other : {A : Type 0} (u : Site) (c : Core) (a b : A) → chosen (whom u c) b a ≡ cond (pushes u.ring (other c)) a b
 chosen_other {A = A} u c a b = go (producer u) c
   where
-    go : (p c : Core) → cond (eqb (seat_of p c) 0) b a ≡ cond (same_core p (other c)) a b
+    go : (p c : Core) → chosen (whom_of p c) b a ≡ cond (same_core p (other c)) a b
     go core0 core0 = refl
     go core0 core1 = refl
     go core1 core0 = refl
     go core1 core1 = refl
 
-lead_is : (u : Site) (c : Core) (m : ℕ) → m ≡ (part u).size → mv.lead_of (seat u c) m ≡ lead (shape u) u.ring c
-unfolding mv.lead_of
+lead_is : (u : Site) (c : Core) (m : ℕ) → m ≡ (part u).size → mv.lead_of (whom u c) m ≡ lead (shape u) u.ring c
 lead_is u c m e = go (pushes u.ring c)
   where
-    go : (b : Bool) → cond (eqb (cond b 0 1) 0) m 0 ≡ cond b (part u).size 0
+    go : (b : Bool) → chosen (cond b Producer Consumer) m 0 ≡ cond b (part u).size 0
     go true = e
     go false = refl
 
@@ -112,6 +110,6 @@ short_eq n l l' M M' own own' k k' a b c d = cc
 
 -- The code's room question is the definition's.
 pub short_same : {u : Site} {s : Ring} {st : Local} {xs : List Result} → Rep u s st xs → (c : Core) (n own own' k k' : ℕ) → own ≡ own' → k ≡ k'
-    → shortfall_of (mv.lead_of (seat u c) s.size) s.modulus n own k ≡ shortfall (shape u) u.ring c n own' k'
+    → shortfall_of (mv.lead_of (whom u c) s.size) s.modulus n own k ≡ shortfall (shape u) u.ring c n own' k'
 short_same {u} {s} r c n own own' k k' e e' =
-    short_eq n (mv.lead_of (seat u c) s.size) (lead (shape u) u.ring c) s.modulus (part u).modulus own own' k k' (lead_is u c s.size r.size_is) r.modulus_is e e'
+    short_eq n (mv.lead_of (whom u c) s.size) (lead (shape u) u.ring c) s.modulus (part u).modulus own own' k k' (lead_is u c s.size r.size_is) r.modulus_is e e'

@@ -15,8 +15,10 @@ use Rattle.model.proofs.Sides.{with_same, with_other}
 use Rattle.model.specs.Marks.{batch_failed, race_found, no_such_core}
 use Rattle.model.specs.Queue.{Side, Queue, with_side}
 use Rattle.model.specs.Run.{Result, refused, performed, raced, fresh_queue}
-use Rattle.model.specs.Report.{one, count, marked, marked_of, missed, largest_shortfall}
+use Rattle.model.specs.Report.{one, count, marked, marked_of, missed, largest_shortfall, partner_of}
 use Rattle.model.proofs.Shortfall.{last_queue, last_more, failed_by, largest_more}
+use Rattle.std.specs.Prelude.{None}
+use Rattle.ring.specs.Raced.{race_partner}
 use Rattle.ring.specs.declared.state.Core as rc
 use Rattle.ring.specs.declared.state.Ring.{Ring}
 use Rattle.ring.specs.computed.State.{fresh_core, core_at}
@@ -36,8 +38,8 @@ refused_kept {u} {s} {st} {xs} r n l =
     record {
       size_is = r.size_is;
       modulus_is = r.modulus_is;
-      bits_are = r.bits_are;
-      quiet = λ k. let q = r.quiet (sym same ∙ k) in (q.0, q.1, still ∙ q.2);
+      orders_are = r.orders_are;
+      quiet = λ k. let q = r.quiet (sym same ∙ k) in (q.0, still ∙ q.1);
       two_cores = r.two_cores;
       core_is = λ c. core_kept idle refl (r.core_is c);
       list_is = λ c. listed_old idle refl (r.list_is c);
@@ -57,8 +59,8 @@ refused_kept {u} {s} {st} {xs} r n l =
 
 -- A move of core c that does not race: what is new after it.
 pub record Moves (u : Site) (s s' : Ring) (st : Local) (c : Core) (a : Act) (mark : ℕ) (q : Queue) (d : rc.Core) (me : Side) : Type 0 where
-  pub shape_same : (s'.size ≡ s.size) × (s'.modulus ≡ s.modulus) × (s'.bits ≡ s.bits)
-  pub unraced : (s'.race ≡ 0) × (s'.partner ≡ 0)
+  pub shape_same : (s'.size ≡ s.size) × (s'.modulus ≡ s.modulus) × (s'.orders ≡ s.orders)
+  pub unraced : s'.race ≡ None
   pub cores_are : s'.cores ≡ set s.cores (seat u c) d
   pub sides_are : q.side ≡ with_side st.queue.side c me
   pub acts : who a ≡ some c
@@ -88,12 +90,12 @@ moved_kept {u} {s} {s'} {st} {xs} {c} {a} {mark} {q} {d} {me} r h m =
     let theirs : core_at s' (seat u (other c)) ≡ core_at s (seat u (other c)) = ap (λ l. get_or l (seat u (other c)) fresh_core) m.cores_are ∙ put_other u s.cores c d in
     let my_side : q.side c ≡ me = ap (λ (w : Core → Side). w c) m.sides_are ∙ with_same st.queue.side c me in
     let their_side : q.side (other c) ≡ st.queue.side (other c) = ap (λ (w : Core → Side). w (other c)) m.sides_are ∙ with_other st.queue.side c me in
-    let partner0 = sym (r.quiet h).1 ∙ r.partner_is in
+    let partner0 : 0 ≡ partner_of xs = sym (ap race_partner (r.quiet h).0) ∙ r.partner_is in
     record {
       size_is = m.shape_same.0 ∙ r.size_is;
       modulus_is = m.shape_same.1 ∙ r.modulus_is;
-      bits_are = m.shape_same.2 ∙ r.bits_are;
-      quiet = λ _. (m.unraced.0, m.unraced.1, still ∙ (r.quiet h).2);
+      orders_are = m.shape_same.2 ∙ r.orders_are;
+      quiet = λ _. (m.unraced, still ∙ (r.quiet h).1);
       two_cores = ap length m.cores_are ∙ length-set s.cores (seat u c) d ∙ r.two_cores;
       core_is = both (λ (e : Core). CoreRep u (a ∷ st.trace) e (core_at s' (seat u e)) (q.side e)) c
           (rw (mine, my_side) m.core_new)
@@ -129,18 +131,18 @@ moved_kept {u} {s} {s'} {st} {xs} {c} {a} {mark} {q} {d} {me} r h m =
           let z : failed_by (shape u) u.ring (other c) (last_queue (fresh_queue u.ring (part u)) xs) x ≡ 0 = rw (m.acts, same_other c, and_false (eqb mark batch_failed)) in
           let w : (core_at s' (seat u (other c))).largest ≡ (core_at s (seat u (other c))).largest = ap (λ (b : rc.Core). b.largest) theirs in
           omega (arith, r.largest_is (other c)));
-      partner_is = m.unraced.1 ∙ partner0 ∙ sym (partner_stays xs x e7);
+      partner_is = ap race_partner m.unraced ∙ partner0 ∙ sym (partner_stays xs x e7);
     }
 
 -- A race: the access joins the trace, the pair is noted, and nothing else changes.
 pub raced_kept : {u : Site} {s s' : Ring} {st : Local} {xs : List Result} {c : Core} {a : Act} {i : ℕ}
     → Rep u s st xs → st.halted ≡ false → who a ≡ some c → learn (shape u).orders c a ≡ 0 → ((e : Core) → stores_to (index u.ring e) a ≡ false) → reads c (index u.ring (other c)) a ≡ 0
-    → s'.size ≡ s.size → s'.modulus ≡ s.modulus → s'.bits ≡ s.bits → s'.slots ≡ s.slots → s'.cores ≡ s.cores
-    → s'.back ≡ s.back → s'.front ≡ s.front → s'.partner ≡ i
+    → s'.size ≡ s.size → s'.modulus ≡ s.modulus → s'.orders ≡ s.orders → s'.slots ≡ s.slots → s'.cores ≡ s.cores
+    → s'.back ≡ s.back → s'.front ≡ s.front → race_partner s'.race ≡ i
     → Rep u s' (onward st (raced u.ring a st.queue i)) (xs ++ (raced u.ring a st.queue i ∷ []))
 raced_kept {u} {s} {s'} {st} {xs} {c} {a} {i} r h acts learns stores reads_none e1 e2 e3 e4 e5 e6 e7 e9 =
     let x = raced u.ring a st.queue i in
-    let more = partner_more 1 xs x (omega arith) (r.quiet h).2 in
+    let more = partner_more 1 xs x (omega arith) (r.quiet h).1 in
     let core : (e : Core) → core_at s' (seat u e) ≡ core_at s (seat u e) = λ e. ap (λ l. get_or l (seat u e) fresh_core) e5 in
     let learns_not : (e : Core) → learn (shape u).orders e a ≡ 0 = both (λ (e : Core). learn (shape u).orders e a ≡ 0) c learns (other_learns_nothing a c acts (shape u).orders) in
     let reads_not : (e : Core) → reads e (index u.ring (other e)) a ≡ 0 = both (λ (e : Core). reads e (index u.ring (other e)) a ≡ 0) c reads_none
@@ -151,7 +153,7 @@ raced_kept {u} {s} {s'} {st} {xs} {c} {a} {i} r h acts learns stores reads_none 
     record {
       size_is = e1 ∙ r.size_is;
       modulus_is = e2 ∙ r.modulus_is;
-      bits_are = e3 ∙ r.bits_are;
+      orders_are = e3 ∙ r.orders_are;
       quiet = λ k. clash (cc);
       two_cores = rw e5 r.two_cores;
       core_is = λ e. rw (core e) (core_kept a (learns_not e) (r.core_is e));

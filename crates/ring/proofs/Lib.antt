@@ -10,7 +10,6 @@ pub mod Lists
 pub mod Loads
 pub mod Loop
 pub mod Parts
-pub mod Played
 pub mod Prefix
 pub mod Raced
 pub mod Rep

@@ -2,7 +2,7 @@
 use mathlib.Core.Path.{◌≡◌, refl, ap, sym, ◌∙◌, subst}
 use mathlib.Core.Bool.{Bool, true, false, cond}
 use mathlib.Core.Option.{some}
-use mathlib.Core.List.{List, [], ◌∷◌, ◌++◌}
+use mathlib.Core.List.{List, [], ◌∷◌, ◌++◌, append-nil}
 use Prim.Native.Nat.{ℕ, ◌+◌, ◌<◌, ◌≤◌, max}
 use native.Mathlib.Omega.{arith}
 use native.Mathlib.Numerals.{add-one}
@@ -13,25 +13,32 @@ use borrow.Author.Tests.{ltb-false, lt-ltb, le-leb, ne_eqb}
 use Rattle.order.specs.Trace.{Core, other, index, slot, Act, load, Trace, who, stores_to, accesses, stores, latest, value_of}
 use Rattle.order.specs.computed.Record.{know, learn, newer, seen, out_of_reach}
 use Rattle.order.proofs.Trace.{cond_elim, or_none, other_other, same_true, same_false}
-use Rattle.model.specs.Marks.{own_loaded, foreign_loaded, batch_failed, race_found}
+use Rattle.model.specs.Marks.{own_loaded, batch_failed, race_found}
 use Rattle.model.specs.Queue.{Phase, start, reload, moving, Side, Queue, pushes, shortfall, is_short}
 use Rattle.model.specs.Plan as pl
 use Rattle.model.specs.Run.{Result, performed}
 use Rattle.model.specs.Report.{one, missed}
 use Rattle.model.specs.computed.Machine.{decided}
 use Rattle.model.proofs.Total.{total_take_suc}
+use Rattle.std.specs.Prelude.{None}
+use Rattle.ring.specs.declared.marks.Performed.{Performed}
+use Rattle.ring.specs.declared.marks.Performed.TheVariants.{OwnLoaded, ForeignLoaded, BatchFailed}
 use Rattle.ring.specs.declared.state.Stores.{Stores}
 use Rattle.ring.specs.declared.state.Core as rc
 use Rattle.ring.specs.declared.state.Ring.{Ring}
 use Rattle.ring.specs.computed.State as states
-use Rattle.ring.specs.computed.State.{fresh_core, place_of, newest_of, chosen, core_at}
+use Rattle.ring.specs.declared.orders.Orders.{Orders}
+use Rattle.ring.specs.computed.Orders.{orders_of}
+use Rattle.ring.specs.computed.Who.{chosen}
+use Rattle.ring.specs.computed.Marks.{performed_mark, byte_read}
+use Rattle.ring.specs.computed.State.{fresh_core, place_of, newest_of, core_at}
 use Rattle.ring.specs.computed.Moves as mv
-use Rattle.ring.proofs.Site.{Site, part, shape, producer, seat, sizes_of, Fit, Local, step_at}
+use Rattle.ring.proofs.Site.{Site, part, shape, producer, whom, seat, sizes_of, Fit, Local, step_at}
 use Rattle.ring.proofs.Parts.{batches_cons, progress, phase_after_load, learnt_is}
-use Rattle.ring.proofs.Lists.{listed_some, listed_old, newest_is, newest_below, ReadTo, reach_is}
+use Rattle.ring.proofs.Lists.{listed_old, newest_is, newest_below, ReadTo, reach_is}
 use Rattle.ring.proofs.Rep.{list_of, list_same, read_kept, Sized, CoreRep, Rep, put_same, put_other, lately_kept}
 use Rattle.ring.proofs.Kept.{moved_kept}
-use Rattle.ring.proofs.Join.{Joined, no_more, chosen_is, chosen_other, feed_keeps, out_keeps, step_is, own_learns_nothing, own_reads_nothing, foreign_reads, no_slot, short_pos, short_same}
+use Rattle.ring.proofs.Join.{Joined, chosen_is, chosen_other, feed_keeps, out_keeps, step_is, own_learns_nothing, own_reads_nothing, foreign_reads, no_slot, short_pos, short_same}
 
 module _ {u : Site} (g : Fit u) {s : Ring} {st : Local} {xs : List Result} (r : Rep u s st xs) (h : st.halted ≡ false) (c : Core)
     (more : (core_at s (seat u c)).batch < length (sizes_of u c)) where
@@ -40,22 +47,22 @@ module _ {u : Site} (g : Fit u) {s : Ring} {st : Local} {xs : List Result} (r : 
   batches = (r.core_is c).batches_are ∙ batches_cons (sizes_of u c) (core_at s (seat u c)).batch more
 
   -- A load of an index: one core changes, and no list and no slot.
-  core_joined : (a : Act) (mark : ℕ) (d : rc.Core) (me : Side) (feed : List ℕ) → who a ≡ some c → mark < race_found → eqb mark 5 ≡ false
+  core_joined : (a : Act) (did : Performed) (d : rc.Core) (me : Side) (feed : List ℕ) → who a ≡ some c → performed_mark did < race_found → byte_read did ≡ None
       → ((e : Core) → stores_to (index u.ring e) a ≡ false) → ((e : Core) (y : ℕ) → accesses e (slot u.ring y) a ≡ false)
       → CoreRep u (a ∷ st.trace) c d me → (core_at s (seat u c)).batch ≤ d.batch
       → feed ≡ drop ((get_or (set s.cores (seat u c) d) (seat u (producer u)) fresh_core).passed + (get_or (set s.cores (seat u c) d) (seat u (producer u)) fresh_core).moved) (part u).push_bytes
       → d.done + d.moved ≡ (core_at s (seat u c)).done + (core_at s (seat u c)).moved
-      → d.failed ≡ (core_at s (seat u c)).failed + one (eqb mark batch_failed)
-      → d.largest ≡ max (core_at s (seat u c)).largest (cond (eqb mark batch_failed) (missed (shape u) u.ring c (st.queue.side c).batches me) 0)
+      → d.failed ≡ (core_at s (seat u c)).failed + one (eqb (performed_mark did) batch_failed)
+      → d.largest ≡ max (core_at s (seat u c)).largest (cond (eqb (performed_mark did) batch_failed) (missed (shape u) u.ring c (st.queue.side c).batches me) 0)
       → ReadTo (list_of u s (other c)) d.read (seen (a ∷ st.trace) c (index u.ring (other c)))
-      → Joined u (mv.with_core s (seat u c) d mark) st xs (performed u.ring mark a (pl.turned st.queue c me feed))
-  core_joined a mark d me feed acts plain no5 ns na core later fed outs fails misses read =
-      let s' : Ring = mv.with_core s (seat u c) d mark in
+      → Joined u (mv.with_core s (whom u c) d did) st xs (performed u.ring (performed_mark did) a (pl.turned st.queue c me feed))
+  core_joined a did d me feed acts plain no5 ns na core later fed outs fails misses read =
+      let s' : Ring = mv.with_core s (whom u c) d did in
       let same = list_same u s s' refl refl in
       record {
         rep = moved_kept r h (record {
           shape_same = (refl, refl, refl);
-          unraced = ((r.quiet h).0, (r.quiet h).1);
+          unraced = (r.quiet h).0;
           cores_are = refl;
           sides_are = refl;
           acts = acts;
@@ -74,9 +81,9 @@ module _ {u : Site} (g : Fit u) {s : Ring} {st : Local} {xs : List Result} (r : 
           largest_new = misses;
         });
         mark_is = refl;
-        performs = le-leb mark race_found (omega (arith, plain));
-        out_is = rw no5 (no_more st.queue.out);
-        race_is = (r.quiet h).0 ∙ rw (ne_eqb mark race_found (λ z. omega (arith, plain)));
+        performs = le-leb (performed_mark did) race_found (omega (arith, plain));
+        out_is = rw no5 (sym (append-nil st.queue.out));
+        race_is = (r.quiet h).0 ∙ rw (ne_eqb (performed_mark did) race_found (λ z. omega (arith, plain)));
         of-ring = refl;
         running = h;
       }
@@ -121,17 +128,17 @@ module _ {u : Site} (g : Fit u) {s : Ring} {st : Local} {xs : List Result} (r : 
   own_facts v n b = (omega arith, refl, refl, refl, refl, refl, refl)
 
   own_ring : (n v : ℕ) → n ≡ get_or (sizes_of u c) (core_at s (seat u c)).batch 0 → v ≡ value_of st.trace (latest st.trace (index u.ring c))
-      → mv.own_load s (seat u c) n
-      ≡ mv.with_core s (seat u c) (mv.own_loaded (core_at s (seat u c)) v (get_or (sizes_of u c) (core_at s (seat u c)).batch 0)
-      (is_short (shape u) u.ring c (get_or (sizes_of u c) (core_at s (seat u c)).batch 0) v (st.queue.side c).cached)) 1
+      → mv.own_load s (whom u c) n
+      ≡ mv.with_core s (whom u c) (mv.own_loaded (core_at s (seat u c)) v (get_or (sizes_of u c) (core_at s (seat u c)).batch 0)
+      (is_short (shape u) u.ring c (get_or (sizes_of u c) (core_at s (seat u c)).batch 0) v (st.queue.side c).cached)) OwnLoaded
   unfolding mv.own_load
   own_ring n v en ev =
-      let eo : newest_of (chosen (seat u c) s.back s.front) ≡ v = ap newest_of (chosen_is u c s.back s.front) ∙ newest_is (r.list_is c) ∙ sym ev in
-      let es = short_same r c n (newest_of (chosen (seat u c) s.back s.front)) v (core_at s (seat u c)).cached (st.queue.side c).cached eo (r.core_is c).cached_is in
+      let eo : newest_of (chosen (whom u c) s.back s.front) ≡ v = ap newest_of (chosen_is u c s.back s.front) ∙ newest_is (r.list_is c) ∙ sym ev in
+      let es = short_same r c n (newest_of (chosen (whom u c) s.back s.front)) v (core_at s (seat u c)).cached (st.queue.side c).cached eo (r.core_is c).cached_is in
       cc (en, eo, es)
 
   pub own_joined : (st.queue.side c).phase ≡ start → (size : ℕ) → size ≡ get_or (sizes_of u c) (core_at s (seat u c)).batch 0
-      → Joined u (mv.own_load s (seat u c) size) st xs (step_at u c st 0)
+      → Joined u (mv.own_load s (whom u c) size) st xs (step_at u c st 0)
   own_joined ep size es =
       let t : Trace = st.trace in
       let q : Queue = st.queue in
@@ -149,7 +156,7 @@ module _ {u : Site} (g : Fit u) {s : Ring} {st : Local} {xs : List Result} (r : 
       step_is u st c 0 h ∙ ap (decided (shape u).orders u.ring c q t)
       (ap (pl.of_batches (shape u) u.ring c q t 0) batches ∙ ap (pl.in_batch (shape u) u.ring c q t 0 n rest) ep) in
       rw (own_ring size v es refl, ex) (
-      core_joined a own_loaded d me q.feed refl (omega arith) refl (λ e. refl) (λ e y. no_slot e c y) (own_core a b n v v learns refl refl small (λ k. short_pos (shape u) u.ring c n v (q.side c).cached k))
+      core_joined a OwnLoaded d me q.feed refl (omega arith) refl (λ e. refl) (λ e y. no_slot e c y) (own_core a b n v v learns refl refl small (λ k. short_pos (shape u) u.ring c n v (q.side c).cached k))
       (own_facts v n b).0
       (r.feed_is ∙ ap (λ k. drop k (part u).push_bytes) (sym (feed_keeps u s.cores r.two_cores c d (omega (arith, own_facts v n b, still)))))
       (omega (arith, own_facts v n b, still))
@@ -227,24 +234,24 @@ module _ {u : Site} (g : Fit u) {s : Ring} {st : Local} {xs : List Result} (r : 
   foreign_ring : (age e v p k : ℕ) → p ≡ place_of (list_of u s (other c)) age → age < (list_of u s (other c)).count → e ≡ get_or (list_of u s (other c)).entries (place_of (list_of u s (other c)) age) 0
       → v ≡ value_of st.trace e → k ≡ know (shape u).orders (load c (index u.ring (other c)) e ∷ st.trace) c → (st.queue.side c).phase ≡ reload
       → let x = shortfall (shape u) u.ring c (get_or (sizes_of u c) (core_at s (seat u c)).batch 0) (st.queue.side c).own v in
-      mv.foreign_load s (seat u c) age
-      ≡ mv.with_core s (seat u c) (cond (ltb 0 x) (mv.batch_lost (core_at s (seat u c)) v p k x) (mv.batch_kept (core_at s (seat u c)) v p k)) (mv.foreign_mark (ltb 0 x))
+      mv.foreign_load s (whom u c) age
+      ≡ mv.with_core s (whom u c) (cond (ltb 0 x) (mv.batch_lost (core_at s (seat u c)) v p k x) (mv.batch_kept (core_at s (seat u c)) v p k)) (mv.load_did (ltb 0 x))
   unfolding mv.foreign_load mv.foreign_loaded
   foreign_ring age e v p k eq small ee ev ek ep =
       let theirs : Stores = list_of u s (other c) in
-      let th : chosen (seat u c) s.front s.back ≡ list_of u s (other c) = chosen_other u c s.back s.front in
+      let th : chosen (whom u c) s.front s.back ≡ list_of u s (other c) = chosen_other u c s.back s.front in
       let d = r.core_is c in
       let n : ℕ = get_or (sizes_of u c) (core_at s (seat u c)).batch 0 in
       let en : (core_at s (seat u c)).size ≡ n = (rw ep at d.sized).1 in
       let value : get_or theirs.values (place_of theirs age) 0 ≡ v = (r.list_is (other c)).value_is age small ∙ ap (value_of st.trace) (sym ee) ∙ sym ev in
-      let known : mv.learnt_of (mv.syncs_of s.bits (seat u c)) (core_at s (seat u c)).known (get_or theirs.entries (place_of theirs age) 0) ≡ k =
-      learnt_at s.bits (core_at s (seat u c)).known (get_or theirs.entries (place_of theirs age) 0) e r.bits_are d.known_is (sym ee) ∙ sym ek in
+      let known : mv.learnt_of (mv.syncs_of s.orders (whom u c)) (core_at s (seat u c)).known (get_or theirs.entries (place_of theirs age) 0) ≡ k =
+      learnt_at s.orders (core_at s (seat u c)).known (get_or theirs.entries (place_of theirs age) 0) e r.orders_are d.known_is (sym ee) ∙ sym ek in
       let short = short_same r c n (core_at s (seat u c)).own (st.queue.side c).own (get_or theirs.values (place_of theirs age) 0) v d.own_is value in
       cc (th, en, value, known, short, eq)
     where
-      learnt_at : (bits kn x e : ℕ) → bits ≡ (part u).bits → kn ≡ know (shape u).orders st.trace c → x ≡ e
-          → mv.learnt_of (mv.syncs_of bits (seat u c)) kn x ≡ know (shape u).orders (load c (index u.ring (other c)) e ∷ st.trace) c
-      learnt_at bits kn x e p q z = rw (p, q, z) (learnt_is u st.trace c e)
+      learnt_at : (orders : Orders) (kn x e : ℕ) → orders ≡ orders_of (part u).bits → kn ≡ know (shape u).orders st.trace c → x ≡ e
+          → mv.learnt_of (mv.syncs_of orders (whom u c)) kn x ≡ know (shape u).orders (load c (index u.ring (other c)) e ∷ st.trace) c
+      learnt_at orders kn x e p q z = rw (p, q, z) (learnt_is u st.trace c e)
 
   -- A failed push's bytes are passed over.
   feed_skips : (n : ℕ) (d : rc.Core) → n ≡ (core_at s (seat u c)).size → d.passed ≡ (core_at s (seat u c)).passed + (core_at s (seat u c)).size → d.moved ≡ (core_at s (seat u c)).moved
@@ -269,23 +276,23 @@ module _ {u : Site} (g : Fit u) {s : Ring} {st : Local} {xs : List Result} (r : 
 
   failed_facts : (v p k x : ℕ) → let d = mv.batch_lost (core_at s (seat u c)) v p k x in
       (d.batch ≡ (core_at s (seat u c)).batch + 1) × (d.passed ≡ (core_at s (seat u c)).passed + (core_at s (seat u c)).size) × (d.moved ≡ (core_at s (seat u c)).moved)
-      × (d.done ≡ (core_at s (seat u c)).done) × (d.failed ≡ (core_at s (seat u c)).failed + 1) × (mv.foreign_mark true ≡ batch_failed)
+      × (d.done ≡ (core_at s (seat u c)).done) × (d.failed ≡ (core_at s (seat u c)).failed + 1) × (mv.load_did true ≡ BatchFailed)
       × (d.largest ≡ max (core_at s (seat u c)).largest x) × (d.read ≡ p)
-  unfolding mv.batch_lost mv.foreign_mark
+  unfolding mv.batch_lost mv.load_did
   failed_facts v p k x = (refl, refl, refl, refl, refl, refl, refl, refl)
 
   kept_facts : (v p k : ℕ) → let d = mv.batch_kept (core_at s (seat u c)) v p k in
       (d.batch ≡ (core_at s (seat u c)).batch) × (d.passed ≡ (core_at s (seat u c)).passed) × (d.moved ≡ (core_at s (seat u c)).moved)
-      × (d.done ≡ (core_at s (seat u c)).done) × (d.failed ≡ (core_at s (seat u c)).failed) × (mv.foreign_mark false ≡ foreign_loaded)
+      × (d.done ≡ (core_at s (seat u c)).done) × (d.failed ≡ (core_at s (seat u c)).failed) × (mv.load_did false ≡ ForeignLoaded)
       × (d.largest ≡ (core_at s (seat u c)).largest) × (d.read ≡ p)
-  unfolding mv.batch_kept mv.foreign_mark
+  unfolding mv.batch_kept mv.load_did
   kept_facts v p k = (refl, refl, refl, refl, refl, refl, refl, refl)
 
   -- By whether room is still short.
   by_room : (e v p k x : ℕ) (b : Bool) → ReadTo (list_of u s (other c)) p (seen (load c (index u.ring (other c)) e ∷ st.trace) c (index u.ring (other c))) → x ≡ shortfall (shape u) u.ring c (get_or (sizes_of u c) (core_at s (seat u c)).batch 0) (st.queue.side c).own v
       → k ≡ know (shape u).orders (load c (index u.ring (other c)) e ∷ st.trace) c → (st.queue.side c).phase ≡ reload
       → out_of_reach (shape u).orders st.trace c (index u.ring (other c)) e ≡ false
-      → Joined u (mv.with_core s (seat u c) (cond b (mv.batch_lost (core_at s (seat u c)) v p k x) (mv.batch_kept (core_at s (seat u c)) v p k)) (mv.foreign_mark b)) st xs
+      → Joined u (mv.with_core s (whom u c) (cond b (mv.batch_lost (core_at s (seat u c)) v p k x) (mv.batch_kept (core_at s (seat u c)) v p k)) (mv.load_did b)) st xs
       (decided (shape u).orders u.ring c st.queue st.trace (cond b
       (pl.fail_batch u.ring c st.queue (get_or (sizes_of u c) (core_at s (seat u c)).batch 0) (drop ((core_at s (seat u c)).batch + 1) (sizes_of u c)) e v)
       (pl.keep_batch u.ring c st.queue (get_or (sizes_of u c) (core_at s (seat u c)).batch 0) (drop ((core_at s (seat u c)).batch + 1) (sizes_of u c)) e v)))
@@ -297,7 +304,7 @@ module _ {u : Site} (g : Fit u) {s : Ring} {st : Local} {xs : List Result} (r : 
       let by : missed (shape u) u.ring c (st.queue.side c).batches me ≡ x = ap (λ (l : List ℕ). missed (shape u) u.ring c l me) batches ∙ sym ex in
       let en : get_or (sizes_of u c) (core_at s (seat u c)).batch 0 ≡ (core_at s (seat u c)).size = sym (rw ep at (r.core_is c).sized).1 in
       rw (z.5, new) (
-      core_joined a batch_failed d _ _ refl (omega arith) refl (λ x. refl) (λ x y. no_slot x c y) (failed_core a v p k x ek ep)
+      core_joined a BatchFailed d _ _ refl (omega arith) refl (λ x. refl) (λ x y. no_slot x c y) (failed_core a v p k x ek ep)
       (omega arith) (feed_skips (get_or (sizes_of u c) (core_at s (seat u c)).batch 0) d en z.1 z.2) (omega arith) (omega arith) (omega arith) (rw z.7 read)
       )
   by_room e v p k x false read ex ek ep new =
@@ -305,13 +312,13 @@ module _ {u : Site} (g : Fit u) {s : Ring} {st : Local} {xs : List Result} (r : 
       let d : rc.Core = mv.batch_kept (core_at s (seat u c)) v p k in
       let z = kept_facts v p k in
       rw (z.5, new) (
-      core_joined a foreign_loaded d _ _ refl (omega arith) refl (λ x. refl) (λ x y. no_slot x c y) (kept_core a v p k ek ep)
+      core_joined a ForeignLoaded d _ _ refl (omega arith) refl (λ x. refl) (λ x y. no_slot x c y) (kept_core a v p k ek ep)
       (omega arith) (r.feed_is ∙ ap (λ (j : ℕ). drop j (part u).push_bytes) (sym (feed_keeps u s.cores r.two_cores c d (omega arith)))) (omega arith) (omega arith) (omega arith) (rw z.7 read)
       )
 
   pub foreign_joined : (st.queue.side c).phase ≡ reload → (age : ℕ) → age < (list_of u s (other c)).count
       → states.out_of_reach (list_of u s (other c)).entries (place_of (list_of u s (other c)) age) (core_at s (seat u c)).known (core_at s (seat u c)).read (list_of u s (other c)).count ≡ false
-      → Joined u (mv.foreign_load s (seat u c) age) st xs (step_at u c st age)
+      → Joined u (mv.foreign_load s (whom u c) age) st xs (step_at u c st age)
   foreign_joined ep age small reached =
       let q : Queue = st.queue in
       let t : Trace = st.trace in
@@ -325,7 +332,7 @@ module _ {u : Site} (g : Fit u) {s : Ring} {st : Local} {xs : List Result} (r : 
       sym (reach_is (r.list_is (other c)) (shape u).orders c age (core_at s (seat u c)).known (core_at s (seat u c)).read small (r.core_is c).known_is (r.read_is c)) ∙ reached in
       let older = ltb-false e (seen t c (index u.ring (other c))) (or_none (newer (stores t (index u.ring (other c))) e (know (shape u).orders t c)) (ltb e (seen t c (index u.ring (other c)))) new).1 in
       let read : ReadTo (list_of u s (other c)) p (seen (load c (index u.ring (other c)) e ∷ t) c (index u.ring (other c))) =
-      record { inside = omega (arith, listed_some (r.list_is (other c))); entry_is = omega (arith, foreign_reads u.ring c e) } in
+      record { inside = omega (arith, (list_of u s (other c)).some); entry_is = omega (arith, foreign_reads u.ring c e) } in
       let ex : step_at u c st age ≡ decided (shape u).orders u.ring c q t (pl.foreign_load (shape u) u.ring c q n rest e v) =
       step_is u st c age h ∙ ap (decided (shape u).orders u.ring c q t)
       (ap (pl.of_batches (shape u) u.ring c q t age) batches ∙ ap (pl.in_batch (shape u) u.ring c q t age n rest) ep

@@ -2,10 +2,10 @@
 use mathlib.Core.Path.{◌≡◌, refl, ◌∙◌}
 use mathlib.Core.Bool.{Bool, true, false, cond, ◌&&◌}
 use mathlib.Core.List.{List, [], ◌∷◌}
-use Prim.Native.Nat.{ℕ, zero, suc, ◌+◌, ◌/◌, ◌%◌, ◌<◌, max}
+use Prim.Native.Nat.{ℕ, zero, suc, ◌+◌, ◌/◌, ◌<◌, max}
 use native.Mathlib.Omega.{arith}
 use native.Mathlib.Numerals.{add-one}
-use lib.Dec.{eqb, ltb}
+use lib.Dec.{ltb}
 use lib.ListN.{get_or, length, take, drop}
 use lib.Seq.{drop-cons, get_or-take, get_or-drop}
 use Rattle.order.specs.Trace.{Core, core0, core1, other, same_core, index, load, Trace}
@@ -17,8 +17,10 @@ use Rattle.model.specs.Queue.{Phase, start, reload, moving}
 use Rattle.model.specs.Run.{first_ring, names_one}
 use Rattle.model.proofs.Laid.{Ranges, Laid, lawful_ranges, lawful_laid}
 use Rattle.ring.specs.computed.Reads.{size_at, byte_for}
+use Rattle.ring.specs.computed.Orders.{orders_of}
 use Rattle.ring.specs.computed.Moves.{syncs_of, learnt_of, phase_after}
-use Rattle.ring.proofs.Site.{Site, part, shape, producer, seat_of, seat, sizes_of, Fit}
+use Rattle.ring.specs.declared.who.Who.TheVariants.{Producer}
+use Rattle.ring.proofs.Site.{Site, part, shape, producer, whom_of, whom, seat, sizes_of, Fit}
 
 -- The one ring of a run file.
 abbrev pub site_of : List ℕ → Site
@@ -31,9 +33,6 @@ pub record Good (f : List ℕ) : Type 0 where
   pub ranges : Ranges f
   pub laid : Laid f
   pub fit : Fit (site_of f)
-
-pub ranges_of : {f : List ℕ} → Lawful f → Ranges f
-ranges_of {f} h = lawful_ranges f h
 
 -- A part of a list of bytes is one.
 pub get_or-take_small : (n : ℕ) (l : List ℕ) → ((k : ℕ) → get_or l k 0 < 256) → (k : ℕ) → get_or (take n l) k 0 < 256
@@ -83,7 +82,7 @@ module _ {f : List ℕ} (g : Good f) where
   pub sizes_length : (c : Core) → length (sizes_of (site_of f) c) ≡ byte_at f (6 + seat (site_of f) c)
   sizes_length = lengths g.bytes g.laid
 
-  pub size-at : (c : Core) (b : ℕ) → size_at f (seat (site_of f) c) b ≡ get_or (sizes_of (site_of f) c) b 0
+  pub size-at : (c : Core) (b : ℕ) → size_at f (whom (site_of f) c) b ≡ get_or (sizes_of (site_of f) c) b 0
   unfolding size_at
   size-at core0 b = refl
   size-at core1 b = refl
@@ -93,7 +92,7 @@ pub batches_cons : (l : List ℕ) (b : ℕ) → b < length l → drop b l ≡ ge
 batches_cons l b h = rw (add-one b) (drop-cons l b 0 h)
 
 -- The producer's next byte to push.
-pub feed_at : (f : List ℕ) (a b : ℕ) → a + b < total (push_sizes f) → get_or (drop (a + b) (push_bytes f)) 0 0 ≡ byte_for f 0 a b
+pub feed_at : (f : List ℕ) (a b : ℕ) → a + b < total (push_sizes f) → get_or (drop (a + b) (push_bytes f)) 0 0 ≡ byte_for f Producer a b
 unfolding push_bytes byte_for
 feed_at f a b h =
     let n : ℕ = total (push_sizes f) in
@@ -124,26 +123,27 @@ phase_after_move i n = refl
 
 -- What a foreign load teaches
 
-and_cond : (a b : Bool) → cond a b false ≡ (a && b)
-and_cond true b = refl
-and_cond false b = refl
+and_swap : (a b : Bool) → (a && b) ≡ (b && a)
+and_swap true true = refl
+and_swap true false = refl
+and_swap false true = refl
+and_swap false false = refl
 
-syncs_is : (u : Site) (c : Core) → syncs_of (part u).bits (seat u c) ≡ syncs (shape u).orders c (index u.ring (other c))
-unfolding syncs_of
+syncs_is : (u : Site) (c : Core) → syncs_of (orders_of (part u).bits) (whom u c) ≡ syncs (shape u).orders c (index u.ring (other c))
 syncs_is u c = go (producer u) c (part u).bits
   where
-    go : (p c : Core) (n : ℕ) → syncs_of n (seat_of p c)
+    go : (p c : Core) (n : ℕ) → syncs_of (orders_of n) (whom_of p c)
         ≡ (same_core (other c) (other c) && (cond (same_core p c) (bit n 0) (bit n 2) && cond (same_core p (other c)) (bit n 1) (bit n 3)))
-    go core0 core0 n = let e : n / 1 ≡ n = omega arith in rw e (and_cond (eqb (n % 2) 1) (bit n 3))
-    go core0 core1 n = and_cond (bit n 2) (bit n 1)
-    go core1 core0 n = and_cond (bit n 2) (bit n 1)
-    go core1 core1 n = let e : n / 1 ≡ n = omega arith in rw e (and_cond (eqb (n % 2) 1) (bit n 3))
+    go core0 core0 n = let e : n / 1 ≡ n = omega arith in rw e refl
+    go core0 core1 n = and_swap (bit n 1) (bit n 2)
+    go core1 core0 n = and_swap (bit n 1) (bit n 2)
+    go core1 core1 n = let e : n / 1 ≡ n = omega arith in rw e refl
 
 learnt_go : (b : Bool) (a s : ℕ) → cond b (max a s) a ≡ max a (cond b s 0)
 learnt_go false a s = omega arith
 learnt_go true a s = refl
 
 pub learnt_is : (u : Site) (t : Trace) (c : Core) (s : ℕ)
-    → learnt_of (syncs_of (part u).bits (seat u c)) (know (shape u).orders t c) s ≡ know (shape u).orders (load c (index u.ring (other c)) s ∷ t) c
+    → learnt_of (syncs_of (orders_of (part u).bits) (whom u c)) (know (shape u).orders t c) s ≡ know (shape u).orders (load c (index u.ring (other c)) s ∷ t) c
 unfolding learnt_of
 learnt_is u t c s = rw (syncs_is u c, same_self c) (learnt_go (syncs (shape u).orders c (index u.ring (other c))) (know (shape u).orders t c) s)

@@ -9,18 +9,15 @@ use Rattle.model.specs.Run.{shape_of, fresh}
 use Rattle.model.specs.RaceAnswer.{race_place, partner_place, RaceAnswer}
 use Rattle.model.proofs.Some.{some_run}
 use Rattle.ring.specs.declared.state.Ran.{Ran}
+use Rattle.ring.specs.Raced.{race_entry, race_partner}
 use Rattle.ring.specs.computed.Report.{told_of}
 use Rattle.ring.specs.computed.Run.{results_of, end_of, Finished}
 
--- Any code but 0: no numbers are told.
-pub refused_race : (f : List ℕ) (code : ℕ) → code ≡ file_code f → ¬ (code ≡ 0) → RaceAnswer f code 0 0
-refused_race f code e h = record { code_is = e; lawful = λ z. absurd (h z); no_entry = λ _. refl; no_partner = λ _. refl }
-
 -- A lawful file: the two numbers are those of the computed run, which the definition allows.
-pub ran_race : (f marks out marks' out' : List ℕ) (n : ℕ) (r : Ran) → file_code f ≡ 0 → Finished f n 0 marks out r marks' out'
-    → RaceAnswer f 0 r.ring.race r.ring.partner
+pub ran_race : {f marks out marks' out' : List ℕ} {r : Ran} → file_code f ≡ 0 → Finished f 0 marks out r marks' out'
+    → RaceAnswer f 0 (race_entry r.ring.race) (race_partner r.ring.race)
 unfolding told_of
-ran_race f marks out marks' out' n r e z = record {
+ran_race {f} e z = record {
   code_is = sym e;
   lawful = λ _. record {
     results = results_of f;

@@ -6,6 +6,7 @@ use mathlib.Core.List.{List, [], ◌∷◌, ◌++◌}
 use Prim.Native.Nat.{ℕ, suc, ◌+◌, ◌<◌, ◌≤◌}
 use native.Mathlib.Omega.{arith}
 use lib.ListN.{get_or, set, length, take, drop, length-append}
+use Rattle.std.specs.Prelude.{None}
 use lib.Seq.{get_or-set_same, get_or-set_other}
 use Rattle.order.specs.Trace.{Core, core0, core1, other, Place, index, slot, Act, idle, load, store, Trace, who, accesses}
 use Rattle.order.specs.Order.{Orders}
@@ -23,10 +24,12 @@ use Rattle.ring.specs.declared.state.Slot.{Slot}
 use Rattle.ring.specs.declared.state.Stores.{Stores}
 use Rattle.ring.specs.declared.state.Core as rc
 use Rattle.ring.specs.declared.state.Ring.{Ring}
-use Rattle.ring.specs.computed.State.{fresh_slot, fresh_core, core_at, Short, Bounded}
+use Rattle.ring.specs.Raced.{race_partner}
+use Rattle.ring.specs.computed.Orders.{orders_of}
+use Rattle.ring.specs.computed.State.{fresh_slot, fresh_core, core_at, Bounded}
 use Rattle.ring.proofs.Site.{Site, part, shape, producer, consumer, seat_of, seat, sizes_of, Fit, Local, seat_lt}
 use Rattle.ring.proofs.Parts.{phase_of, progress}
-use Rattle.ring.proofs.Lists.{Listed, listed_some, ReadTo}
+use Rattle.ring.proofs.Lists.{Listed, ReadTo}
 
 abbrev pub list_of : Site → Ring → Core → Stores
 list_of u s c = cond (pushes u.ring c) s.back s.front
@@ -78,8 +81,8 @@ pub record Lately (u : Site) (t : Trace) (slots : List Slot) : Type 0 where
 pub record Rep (u : Site) (s : Ring) (st : Local) (xs : List Result) : Type 0 where
   pub size_is : s.size ≡ (part u).size
   pub modulus_is : s.modulus ≡ (part u).modulus
-  pub bits_are : s.bits ≡ (part u).bits
-  pub quiet : st.halted ≡ false → (s.race ≡ 0) × (s.partner ≡ 0) × (race_from 1 xs ≡ 0)
+  pub orders_are : s.orders ≡ orders_of (part u).bits
+  pub quiet : st.halted ≡ false → (s.race ≡ None) × (race_from 1 xs ≡ 0)
   pub two_cores : length s.cores ≡ 2
   pub core_is : (c : Core) → CoreRep u st.trace c (core_at s (seat u c)) (st.queue.side c)
   pub list_is : (c : Core) → Listed (part u).modulus st.trace (index u.ring c) (list_of u s c)
@@ -92,7 +95,7 @@ pub record Rep (u : Site) (s : Ring) (st : Local) (xs : List Result) : Type 0 wh
   pub failed_is : (c : Core) → (core_at s (seat u c)).failed ≡ count (marked_of c batch_failed) xs
   pub queue_is : last_queue (fresh_queue u.ring (part u)) xs ≡ st.queue
   pub largest_is : (c : Core) → (core_at s (seat u c)).largest ≡ largest_shortfall (shape u) u.ring (part u) c xs
-  pub partner_is : s.partner ≡ partner_of xs
+  pub partner_is : race_partner s.race ≡ partner_of xs
 
 -- What the moves ask follows.
 
@@ -108,13 +111,6 @@ module _ {u : Site} (g : Fit u) {s : Ring} {st : Local} {xs : List Result} (r : 
 
   pub modulus_le : s.modulus ≤ 65536
   modulus_le = omega (arith, r.modulus_is, g.modulus_high)
-
-pub short : {u : Site} {s : Ring} {st : Local} {xs : List Result} → Fit u → Rep u s st xs → (c : Core) → Short (list_of u s c)
-short {u} {s} g r c = record {
-  some = listed_some (r.list_is c);
-  few = omega (arith, r.list_few c, (r.core_is c).batch_le, g.few c);
-  beside = (r.list_is c).beside;
-}
 
 pub bounded : {u : Site} {s : Ring} {st : Local} {xs : List Result} → Fit u → Rep u s st xs → (c : Core)
     → (core_at s (seat u c)).batch < length (sizes_of u c) → Bounded (core_at s (seat u c))

@@ -5,7 +5,7 @@ use Prim.Native.Nat.{ℕ, suc, ◌+◌, ◌*◌, ◌<◌, ◌≤◌}
 use native.Mathlib.Omega.{arith}
 use native.Mathlib.Numerals.{add-one}
 use lib.ListN.{get_or, length, take, drop, length-append, length-drop, length-take}
-use lib.Seq.{take-suc, take_all, take_at, drop_at, drop-drop, length-take-le}
+use lib.Seq.{take-suc, take_at, drop_at, drop-drop}
 use Rattle.model.specs.Report.{le4, bytes_of}
 use Rattle.little.specs.Little.{put4_of}
 use Rattle.little.proofs.Written.{put_between}
@@ -22,7 +22,7 @@ unfolding bytes_of
 bytes_append [] ys = refl
 bytes_append (x ∷ xs) ys = rw (bytes_append xs ys)
 
-pub bytes_length : (xs : List ℕ) → length (bytes_of xs) ≡ 4 * length xs
+bytes_length : (xs : List ℕ) → length (bytes_of xs) ≡ 4 * length xs
 unfolding bytes_of
 bytes_length [] = refl
 bytes_length (x ∷ xs) = omega (arith, bytes_length xs)
@@ -35,10 +35,6 @@ bytes_one x = refl
 abbrev pub Written : (numbers before after : List ℕ) (i : ℕ) → Type 0
 Written numbers before after i = after ≡ bytes_of (take i numbers) ++ drop (4 * i) before
 
-pub report_none : (numbers before : List ℕ) → Written numbers before before 0
-unfolding bytes_of
-report_none numbers before = refl
-
 -- One number more.
 pub report_more : (numbers before : List ℕ) {after : List ℕ} (i : ℕ) → i < length numbers → 4 * i + 4 ≤ length before
     → Written numbers before after i → Written numbers before (put4_of after (4 * i) (get_or numbers i 0)) (i + 1)
@@ -46,14 +42,3 @@ report_more numbers before i h k w =
     let e : 4 * i + 4 ≡ 4 * suc i = omega arith in
     rw (w, add-one i, take-suc numbers i 0, bytes_append, bytes_one)
     (put4_next (bytes_of (take i numbers)) before (4 * i) (get_or numbers i 0) (rw (bytes_length, length-take) (omega arith)) k ∙ rw e)
-
-pub report_length : (numbers before : List ℕ) {after : List ℕ} (i : ℕ) → i ≤ 12 → 48 ≤ length before → length numbers ≡ 12
-    → Written numbers before after i → length after ≡ length before
-report_length numbers before i a b n w =
-    rw w (simp (length-append, length-drop, bytes_length) (omega (arith, length-take-le i numbers (omega arith))))
-
-pub report_all : (numbers before : List ℕ) {after : List ℕ} (i : ℕ) → i ≤ 12 → 12 ≤ i → length numbers ≡ 12
-    → Written numbers before after i → after ≡ bytes_of numbers ++ drop 48 before
-report_all numbers before i a b n w =
-    let all : i ≡ 12 = omega arith in
-    w ∙ rw (all, take_all 12 numbers (omega (arith, n)))

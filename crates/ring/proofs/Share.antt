@@ -2,7 +2,7 @@
 -- and an entry of another make of it, and its numbers.
 use mathlib.Core.Path.{◌≡◌, refl, ap, sym, ◌∙◌, subst}
 use mathlib.Core.Bool.{Bool, true, false, cond}
-use mathlib.Core.List.{List, [], ◌∷◌, ◌++◌}
+use mathlib.Core.List.{List, [], ◌∷◌, ◌++◌, append-nil}
 use Prim.Native.Nat.{ℕ, ◌+◌, ◌-◌, ◌<◌, ◌≤◌}
 use native.Mathlib.Omega.{arith}
 use lib.Dec.{eqb}
@@ -10,7 +10,7 @@ use lib.ListN.{get_or, set, length, drop, length-set}
 use lib.Seq.{take-length}
 use borrow.Author.Tests.{lt-leb, eq-eqb, ne_eqb}
 use Rattle.order.specs.Trace.{Core, next}
-use Rattle.order.proofs.Trace.{cond_elim, and_false, same_self}
+use Rattle.order.proofs.Trace.{and_false, same_self}
 use Rattle.model.specs.File.{total, Entry}
 use Rattle.model.specs.Marks.{data_loaded, race_found, no_such_core}
 use Rattle.model.specs.Run.{Result, refused, State, after, Runs, fresh_of}
@@ -19,14 +19,17 @@ use Rattle.model.proofs.Report.{performed_and_refused, loads_are_bytes, complete
 use Rattle.model.proofs.Rings.{run_turns}
 use Rattle.model.proofs.Total.{total_small}
 use Rattle.ring.specs.declared.state.Ring.{Ring}
-use Rattle.ring.specs.computed.State.{core_at, Short}
+use Rattle.std.specs.Prelude.{Option, Some, None}
+use Rattle.ring.specs.Raced.{race_entry}
+use Rattle.ring.specs.computed.Marks.{last_byte}
+use Rattle.ring.specs.computed.State.{core_at}
 use Rattle.ring.specs.computed.Run.{next_place, put_byte}
 use Rattle.ring.specs.computed.Report.{occupancy_of, told_of, Countable}
 use Rattle.ring.proofs.Site.{Site, part, shape, producer, consumer, seat, sizes_of, Fit, Local, here, onward, besides, after_here, after_there}
 use Rattle.ring.proofs.Lists.{newest_is, newest_below}
-use Rattle.ring.proofs.Rep.{Rep, modulus_pos, modulus_le, short, count_more, with_more, with_stays, length_more}
+use Rattle.ring.proofs.Rep.{Rep, modulus_pos, modulus_le, count_more, with_more, with_stays, length_more}
 use Rattle.ring.proofs.Kept.{refused_kept}
-use Rattle.ring.proofs.Join.{Joined, no_more}
+use Rattle.ring.proofs.Join.{Joined}
 use Rattle.ring.proofs.Data.{producer_seat, consumer_seat, consumer_pops}
 use Rattle.ring.proofs.Step.{out_bound}
 use Rattle.ring.proofs.Fresh.{fresh_at, fresh_rep}
@@ -46,12 +49,8 @@ of_more r (y ∷ xs) x = go (eqb y.ring r) (of_more r xs x)
 pub of_mine : (r : ℕ) (xs : List Result) (x : Result) → x.ring ≡ r → of_ring r (xs ++ (x ∷ [])) ≡ of_ring r xs ++ (x ∷ [])
 of_mine r xs x e = of_more r xs x ∙ ap (λ (b : Bool). of_ring r xs ++ cond b (x ∷ []) []) (eq-eqb x.ring r e)
 
-no_result : (xs : List Result) → xs ++ [] ≡ xs
-no_result [] = refl
-no_result (x ∷ xs) = ap (λ (l : List Result). x ∷ l) (no_result xs)
-
 pub of_theirs : (r : ℕ) (xs : List Result) (x : Result) → ¬ (x.ring ≡ r) → of_ring r (xs ++ (x ∷ [])) ≡ of_ring r xs
-of_theirs r xs x n = of_more r xs x ∙ ap (λ (b : Bool). of_ring r xs ++ cond b (x ∷ []) []) (ne_eqb x.ring r n) ∙ no_result (of_ring r xs)
+of_theirs r xs x n = of_more r xs x ∙ ap (λ (b : Bool). of_ring r xs ++ cond b (x ∷ []) []) (ne_eqb x.ring r n) ∙ append-nil (of_ring r xs)
 
 -- The racing entry: while nothing of the ring has raced, and for a result that is no race of the ring.
 race_now : (r : ℕ) (xs : List Result) (x : Result) → x.ring ≡ r → race_of r xs ≡ 0 → race_of r (xs ++ (x ∷ [])) ≡ cond (marked race_found x) (1 + length xs) 0
@@ -63,11 +62,15 @@ race_not r xs x e = with_stays (raced_at r) 1 xs x (rw e (and_false (eqb x.ring 
 race_theirs : (r : ℕ) (xs : List Result) (x : Result) → ¬ (x.ring ≡ r) → race_of r (xs ++ (x ∷ [])) ≡ race_of r xs
 race_theirs r xs x n = with_stays (raced_at r) 1 xs x (rw (ne_eqb x.ring r n))
 
+entry_when : (b : Bool) (entry partner : ℕ) → race_entry (cond b (Some (record { entry = entry; partner = partner })) None) ≡ cond b entry 0
+entry_when true entry partner = refl
+entry_when false entry partner = refl
+
 -- THE SHARE of the ring in a run that has come to state st with results xs. The place in out is k; out itself, where each byte has its own place,
 -- holds the bytes read.
 pub record Share (own : Type 0) (u : Site) (out₀ out : List ℕ) (s : Ring) (performed k : ℕ) (st : State) (xs : List Result) : Type 0 where
   pub rep : Rep u s (here st u.ring) (of_ring u.ring xs)
-  pub race_is : s.race ≡ race_of u.ring xs
+  pub race_is : race_entry s.race ≡ race_of u.ring xs
   pub out_same : length out ≡ length out₀
   pub out_is : own → out ≡ (st.queue u.ring).out ++ drop k out₀
   pub place_is : k ≡ length (st.queue u.ring).out
@@ -84,13 +87,6 @@ share_none g own out = record {
   performed_is = refl;
 }
 
--- Both lists are short.
-pub lists_short : {u : Site} → Fit u → {s : Ring} {st : Local} {xs : List Result} → Rep u s st xs → Short s.back × Short s.front
-lists_short {u} g {s} r = (
-  subst Short (ap (λ (b : Bool). cond b s.back s.front) (same_self (producer u))) (short g r (producer u)),
-  subst Short (ap (λ (b : Bool). cond b s.back s.front) (consumer_pops u)) (short g r (consumer u)),
-)
-
 -- The pops of a ring have at most 65,025 bytes.
 pops_few : {u : Site} → Fit u → total (part u).pop_sizes < 65536
 pops_few {u} g =
@@ -103,6 +99,10 @@ pops_few {u} g =
     )
 
 module _ {own : Type 0} {u : Site} {out₀ out : List ℕ} {s : Ring} {performed k : ℕ} {st : State} {xs : List Result} (z : Share own u out₀ out s performed k st xs) where
+  put_length : (p : ℕ) (read : Option ℕ) → length (put_byte out p read) ≡ length out
+  put_length p None = refl
+  put_length p (Some byte) = length-set out p byte
+
   pub place_lt : Fit u → k < 65536
   place_lt g = omega (arith, z.place_is, out_bound z.rep, pops_few g)
 
@@ -112,44 +112,43 @@ module _ {own : Type 0} {u : Site} {out₀ out : List ℕ} {s : Ring} {performed
   -- AN ENTRY OF THE RING, performed: its byte goes into out, where it is a data load.
   module _ {s' : Ring} {x : Result} (j : Joined u s' (here st u.ring) (of_ring u.ring xs) x) where
     -- A data load's byte has a place.
-    pub place_in : s'.mark ≡ 5 → k < total (part u).pop_sizes
-    place_in e =
-        let q' : x.queue.out ≡ (st.queue u.ring).out ++ (s'.byte ∷ []) = j.out_is ∙ rw e refl in
-        omega (arith, ap length q' ∙ length_more (st.queue u.ring).out s'.byte, z.place_is, out_bound j.rep)
+    pub place_in : (byte : ℕ) → last_byte s'.last ≡ Some byte → k < total (part u).pop_sizes
+    place_in byte e =
+        let q' : x.queue.out ≡ (st.queue u.ring).out ++ (byte ∷ []) = j.out_is ∙ rw e refl in
+        omega (arith, ap length q' ∙ length_more (st.queue u.ring).out byte, z.place_is, out_bound j.rep)
 
     queue_after : (after st x).queue u.ring ≡ x.queue
     queue_after = ap (λ (l : Local). l.queue) (after_here st x u.ring j.of-ring)
 
-    written : (p : ℕ) → (own → p ≡ k) → (own → total (part u).pop_sizes ≤ length out₀) → (b : Bool) → eqb s'.mark 5 ≡ b
-        → (own → cond b (set out p s'.byte) out ≡ x.queue.out ++ drop (cond b (k + 1) k) out₀)
-        × (cond b (k + 1) k ≡ length x.queue.out)
-    written p same fit true e =
-        let q' : x.queue.out ≡ (st.queue u.ring).out ++ (s'.byte ∷ []) = j.out_is ∙ rw e in
-        let n = ap length q' ∙ length_more (st.queue u.ring).out s'.byte in (
-          λ o. ap (λ (l : List ℕ). set l p s'.byte) (z.out_is o) ∙ ap (λ (i : ℕ). set ((st.queue u.ring).out ++ drop k out₀) i s'.byte) (same o)
-              ∙ put_next (st.queue u.ring).out out₀ k s'.byte (sym z.place_is) (omega (arith, z.place_is, out_bound j.rep, fit o))
+    written : (p : ℕ) → (own → p ≡ k) → (own → total (part u).pop_sizes ≤ length out₀) → (read : Option ℕ) → last_byte s'.last ≡ read
+        → (own → put_byte out p read ≡ x.queue.out ++ drop (next_place k read) out₀)
+        × (next_place k read ≡ length x.queue.out)
+    written p same fit (Some byte) e =
+        let q' : x.queue.out ≡ (st.queue u.ring).out ++ (byte ∷ []) = j.out_is ∙ rw e in
+        let n = ap length q' ∙ length_more (st.queue u.ring).out byte in (
+          λ o. ap (λ (l : List ℕ). set l p byte) (z.out_is o) ∙ ap (λ (i : ℕ). set ((st.queue u.ring).out ++ drop k out₀) i byte) (same o)
+              ∙ put_next (st.queue u.ring).out out₀ k byte (sym z.place_is) (omega (arith, z.place_is, out_bound j.rep, fit o))
               ∙ ap (λ (l : List ℕ). l ++ drop (k + 1) out₀) (sym q'),
           sym (n ∙ omega (arith, z.place_is)),
         )
-    written p same fit false e =
-        let q' : x.queue.out ≡ (st.queue u.ring).out = j.out_is ∙ rw e (sym (no_more (st.queue u.ring).out)) in
+    written p same fit None e =
+        let q' : x.queue.out ≡ (st.queue u.ring).out = j.out_is ∙ rw e (append-nil (st.queue u.ring).out) in
         (λ fits. z.out_is fits ∙ ap (λ (l : List ℕ). l ++ drop k out₀) (sym q'), z.place_is ∙ ap length (sym q'))
 
     -- The byte goes to place p.
     pub share_moved : (p : ℕ) → (own → p ≡ k) → (own → total (part u).pop_sizes ≤ length out₀) → length st.trace ≡ length xs
-        → Share own u out₀ (put_byte out p s'.mark s'.byte) s' (performed + 1) (next_place k s'.mark) (after st x) (xs ++ (x ∷ []))
+        → Share own u out₀ (put_byte out p (last_byte s'.last)) s' (performed + 1) (next_place k (last_byte s'.last)) (after st x) (xs ++ (x ∷ []))
     share_moved p same fit el =
         let mine = of_mine u.ring xs x j.of-ring in
-        let w = written p same fit (eqb s'.mark 5) refl in
+        let w = written p same fit (last_byte s'.last) refl in
         let number : next st.trace ≡ 1 + length xs = omega (arith, el) in
-        let calm : race_of u.ring xs ≡ 0 = sym z.race_is ∙ (z.rep.quiet j.running).0 in
+        let calm : race_of u.ring xs ≡ 0 = sym z.race_is ∙ ap race_entry (z.rep.quiet j.running).0 in
         record {
           rep = subst (λ (l : Local). Rep u s' l (of_ring u.ring (xs ++ (x ∷ [])))) (sym (after_here st x u.ring j.of-ring))
               (subst (λ (l : List Result). Rep u s' (onward (here st u.ring) x) l) (sym mine) j.rep);
-          race_is = j.race_is ∙ ap (λ (n : ℕ). cond (marked race_found x) n 0) number ∙ sym (race_now u.ring xs x j.of-ring calm);
-          out_same = cond_elim (λ (l : List ℕ). length l ≡ length out₀) (eqb s'.mark 5) (set out p s'.byte) out
-              (λ _. length-set out p s'.byte ∙ z.out_same) (λ _. z.out_same);
-          out_is = λ fits. w.0 fits ∙ ap (λ (q : List ℕ). q ++ drop (next_place k s'.mark) out₀) (sym (ap (λ q. q.out) queue_after));
+          race_is = ap race_entry j.race_is ∙ entry_when (marked race_found x) (next st.trace) x.partner ∙ ap (λ (n : ℕ). cond (marked race_found x) n 0) number ∙ sym (race_now u.ring xs x j.of-ring calm);
+          out_same = put_length p (last_byte s'.last) ∙ z.out_same;
+          out_is = λ fits. w.0 fits ∙ ap (λ (q : List ℕ). q ++ drop (next_place k (last_byte s'.last)) out₀) (sym (ap (λ q. q.out) queue_after));
           place_is = w.1 ∙ ap length (sym (ap (λ q. q.out) queue_after));
           performed_is = ap (λ (n : ℕ). n + 1) z.performed_is
               ∙ sym (ap (count entry_performed) mine ∙ count_more entry_performed (of_ring u.ring xs) x ∙ rw j.performs);
@@ -175,6 +174,7 @@ module _ {own : Type 0} {u : Site} {out₀ out : List ℕ} {s : Ring} {performed
       }
 
   -- AN ENTRY OF ANOTHER RING, after which this ring is represented by s': nothing else changes.
+  -- A run over two rings keeps two shares by it; where a file has one ring nothing cites it.
   pub share_besides : (x : Result) → ¬ (x.ring ≡ u.ring) → {s' : Ring} → s'.race ≡ s.race → Rep u s' (besides (here st u.ring) x) (of_ring u.ring xs)
       → Share own u out₀ out s' performed k (after st x) (xs ++ (x ∷ []))
   share_besides x n {s'} er h =
@@ -184,7 +184,7 @@ module _ {own : Type 0} {u : Site} {out₀ out : List ℕ} {s : Ring} {performed
       record {
         rep = subst (λ (w : Local). Rep u s' w (of_ring u.ring (xs ++ (x ∷ [])))) (sym here_is)
             (subst (λ (w : List Result). Rep u s' (besides (here st u.ring) x) w) (sym theirs) h);
-        race_is = er ∙ z.race_is ∙ sym (race_theirs u.ring xs x n);
+        race_is = ap race_entry er ∙ z.race_is ∙ sym (race_theirs u.ring xs x n);
         out_same = z.out_same;
         out_is = λ fits. z.out_is fits ∙ ap (λ q. q.out ++ drop k out₀) (sym queue_is);
         place_is = z.place_is ∙ ap (λ q. length q.out) (sym queue_is);
@@ -193,7 +193,7 @@ module _ {own : Type 0} {u : Site} {out₀ out : List ℕ} {s : Ring} {performed
 
   -- THE NUMBERS of the ring, of which n entries were tried.
   pub share_numbers : {es : List Entry} → Runs (shape u) (fresh_of u.rings) es xs st → (n : ℕ) → n ≡ length (of_ring u.ring xs)
-      → told_of (record { ring = s; performed = performed; loads = k }) n ≡ report_of (shape u) u.ring (part u) xs st
+      → told_of (record { ring = s; entries = n; performed = performed; loads = k }) ≡ report_of (shape u) u.ring (part u) xs st
   unfolding told_of report_of
   share_numbers run n en =
       let r = z.rep in
@@ -212,16 +212,13 @@ module _ {own : Type 0} {u : Site} {out₀ out : List ℕ} {s : Ring} {performed
       let l1 = rw (consumer_seat u) at (r.largest_is (consumer u)) in
       cc (z.performed_is, refused_are, pushed_are, popped_are, loads_are, left, f0, f1, z.race_is, r.partner_is, l0, l1)
 
-  pub share_countable : Fit u → (n : ℕ) → n ≡ length (of_ring u.ring xs) → Countable (record { ring = s; performed = performed; loads = k }) n
+  pub share_countable : Fit u → (n : ℕ) → n ≡ length (of_ring u.ring xs) → Countable (record { ring = s; entries = n; performed = performed; loads = k })
   share_countable g n en =
       let r = z.rep in
-      let lists = lists_short g r in
       record {
         performed_le = omega (arith, performed_le);
         loads_lt = place_lt g;
         reckonable = record {
-          back_short = lists.0;
-          front_short = lists.1;
           modulus_pos = modulus_pos g r;
           modulus_le = modulus_le g r;
           front_lt = rw r.modulus_is (rw (consumer_pops u) at (newest_below (r.list_is (consumer u))));

@@ -14,6 +14,9 @@ use Rattle.model.specs.Queue.{Named, named, Shape, Queue, pusher, pushes}
 use Rattle.model.specs.Plan.{plan}
 use Rattle.model.specs.Run.{Result, refused, State, after, machine_of}
 use Rattle.model.specs.computed.Machine.{decided, entered, step}
+use Rattle.ring.specs.declared.who.Who.{Who}
+use Rattle.ring.specs.declared.who.Who.TheVariants.{Producer, Consumer}
+use Rattle.ring.specs.computed.Who.{core_place}
 
 -- What the file says of each ring, whom a core byte names, and which ring it is.
 pub record Site : Type 0 where
@@ -33,9 +36,15 @@ producer u = pusher u.ring
 abbrev pub consumer : Site → Core
 consumer u = other (pusher u.ring)
 
--- A core's place among the two of the ring's struct: the producer's is 0.
+-- A core as the code names it, and its place among the two of the ring's struct.
+abbrev pub whom_of : (producer c : Core) → Who
+whom_of p c = cond (same_core p c) Producer Consumer
+
+abbrev pub whom : Site → Core → Who
+whom u c = whom_of (producer u) c
+
 abbrev pub seat_of : (producer c : Core) → ℕ
-seat_of p c = cond (same_core p c) 0 1
+seat_of p c = core_place (whom_of p c)
 
 abbrev pub seat : Site → Core → ℕ
 seat u c = seat_of (producer u) c
@@ -100,6 +109,6 @@ after_there s x r n =
 pub seat_lt : (u : Site) (c : Core) → seat u c < 2
 seat_lt u c = go (same_core (producer u) c)
   where
-    go : (b : Bool) → cond b 0 1 < 2
+    go : (b : Bool) → core_place (cond b Producer Consumer) < 2
     go true = omega arith
     go false = omega arith

@@ -14,9 +14,10 @@ use Rattle.model.specs.Queue.{Phase, start, reload, moving, pushes}
 use Rattle.model.specs.Run.{Result}
 use Rattle.model.proofs.Total.{total_take_suc, total_take_le}
 use Rattle.ring.specs.declared.state.Ring.{Ring}
-use Rattle.ring.specs.computed.State.{chosen, core_at, Bounded}
+use Rattle.ring.specs.computed.Who.{chosen}
+use Rattle.ring.specs.computed.State.{core_at, Bounded}
 use Rattle.ring.specs.computed.Moves as mv
-use Rattle.ring.proofs.Site.{Site, part, producer, consumer, seat, sizes_of, Fit, Local, step_at}
+use Rattle.ring.proofs.Site.{Site, part, producer, consumer, whom, seat, sizes_of, Fit, Local, step_at}
 use Rattle.ring.proofs.Parts.{phase_of, progress}
 use Rattle.ring.proofs.Rep.{Rep, both, bounded}
 use Rattle.ring.proofs.Join.{Joined, chosen_is, chosen_other}
@@ -61,12 +62,12 @@ module _ {u : Site} (g : Fit u) {s : Ring} {st : Local} {xs : List Result} (r : 
   held i e = (rw e at (r.core_is c).sized).1
 
   pub own_arm : (core_at s (seat u c)).phase ≡ 0 → (size : ℕ) → size ≡ get_or (sizes_of u c) (core_at s (seat u c)).batch 0
-      → Joined u (mv.own_load s (seat u c) size) st xs (step_at u c st age)
+      → Joined u (mv.own_load s (whom u c) size) st xs (step_at u c st age)
   own_arm q size es =
       let ea : age ≡ 0 = v.ageless (λ one. omega arith) in
       rw ea (own_joined g r v.running c v.more (phase_start (core_at s (seat u c)).size (st.queue.side c).phase (sym number ∙ q)) size es)
 
-  pub foreign_arm : (core_at s (seat u c)).phase ≡ 1 → Joined u (mv.foreign_load s (seat u c) age) st xs (step_at u c st age)
+  pub foreign_arm : (core_at s (seat u c)).phase ≡ 1 → Joined u (mv.foreign_load s (whom u c) age) st xs (step_at u c st age)
   foreign_arm q =
       let z = v.aged q in
       foreign_joined g r v.running c v.more
@@ -77,7 +78,7 @@ module _ {u : Site} (g : Fit u) {s : Ring} {st : Local} {xs : List Result} (r : 
   Access byte e = (pushes u.ring e ≡ true → byte ≡ get_or st.queue.feed 0 0)
       → (core_at s (seat u e)).batch < length (sizes_of u e) → (i : ℕ) → (st.queue.side e).phase ≡ moving i
       → i < get_or (sizes_of u e) (core_at s (seat u e)).batch 0
-      → Joined u (mv.data_access s (seat u e) byte (next st.trace)) st xs (step_at u e st 0)
+      → Joined u (mv.data_access s (whom u e) byte (next st.trace)) st xs (step_at u e st 0)
 
   access : (byte : ℕ) (e : Core) → Access byte e
   access byte = both (Access byte) (producer u)
@@ -85,25 +86,25 @@ module _ {u : Site} (g : Fit u) {s : Ring} {st : Local} {xs : List Result} (r : 
       (λ fed more i ep left. load_joined g r v.running more i ep left byte)
 
   pub data_arm : (core_at s (seat u c)).phase ≡ 2 → (byte : ℕ) → (pushes u.ring c ≡ true → byte ≡ get_or st.queue.feed 0 0)
-      → Joined u (mv.data_access s (seat u c) byte (next st.trace)) st xs (step_at u c st age)
+      → Joined u (mv.data_access s (whom u c) byte (next st.trace)) st xs (step_at u c st age)
   data_arm q byte fed =
       let ea : age ≡ 0 = v.ageless (λ one. omega arith) in
       let z = phase_moving (core_at s (seat u c)).size (st.queue.side c).phase (sym number ∙ q) in
       rw ea (access byte c fed v.more z.0 z.1 (omega (arith, held z.0 z.1, z.2)))
 
   pub index_arm : ¬ ((core_at s (seat u c)).phase ≡ 0) → ¬ ((core_at s (seat u c)).phase ≡ 1) → ¬ ((core_at s (seat u c)).phase ≡ 2)
-      → Joined u (mv.index_store s (seat u c) (next st.trace)) st xs (step_at u c st age)
-  index_arm a b d =
+      → (room : (chosen (whom u c) s.back s.front).count < 256) → Joined u (mv.index_store s (whom u c) (next st.trace) room) st xs (step_at u c st age)
+  index_arm a b d room =
       let ea : age ≡ 0 = v.ageless b in
       let z = phase_last (core_at s (seat u c)).size (st.queue.side c).phase (λ k. a (number ∙ k)) (λ k. b (number ∙ k)) (λ k. d (number ∙ k)) in
-      rw ea (index_joined g r v.running c v.more z.0 z.1 (omega (arith, held z.0 z.1, z.2)))
+      rw ea (index_joined g r v.running c v.more z.0 z.1 (omega (arith, held z.0 z.1, z.2)) room)
 
   -- What the moves ask.
 
   pub bounds : Bounded (core_at s (seat u c))
   bounds = bounded g r c v.more
 
-  pub age_lt : (core_at s (seat u c)).phase ≡ 1 → age < (chosen (seat u c) s.front s.back).count
+  pub age_lt : (core_at s (seat u c)).phase ≡ 1 → age < (chosen (whom u c) s.front s.back).count
   age_lt q = rw (chosen_other u c s.back s.front) (v.aged q).0
 
   -- In a data access a byte of the batch is left.
@@ -127,7 +128,7 @@ module _ {u : Site} (g : Fit u) {s : Ring} {st : Local} {xs : List Result} (r : 
     total_take_le (sizes_of u c) (suc (core_at s (seat u c)).batch),
   )
 
-  pub count_lt : (chosen (seat u c) s.back s.front).count < 256
+  pub count_lt : (chosen (whom u c) s.back s.front).count < 256
   count_lt = rw (chosen_is u c s.back s.front) (omega (arith, r.list_few c, v.more, g.few c))
 
 -- The bytes read never pass the sum of the pop sizes.

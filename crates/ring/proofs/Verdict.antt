@@ -1,7 +1,7 @@
 -- The code's refusal is the definition's: it answers a number exactly where the definition refuses with that mark.
 use mathlib.Core.Path.{◌≡◌, refl, ap, sym, ◌∙◌}
 use mathlib.Core.Logic.{◌⊎◌, inl, inr}
-use mathlib.Core.Bool.{Bool, true, false, not, cond}
+use mathlib.Core.Bool.{Bool, true, false, cond}
 use mathlib.Core.Option.{Option, none, some}
 use mathlib.Core.List.{List}
 use Prim.Native.Nat.{ℕ, zero, suc, ◌+◌, ◌<◌, ◌≤◌}
@@ -163,13 +163,8 @@ module _ {u : Site} (g : Fit u) {s : Ring} {st : Local} {xs : List Result} (r : 
                 aged true z = goes h more (λ one. absurd (eqb-false (core_at s (seat u c)).phase 1 k one)) (λ _. eqb-true age 0 z)
                 aged false z = inl (no_age_way g r c age h more (eqb-false (core_at s (seat u c)).phase 1 k) (eqb-false age 0 z), omega arith)
 
-    -- THE REFUSAL of an entry that names core c: a mark from 130 on, with which the definition refuses, or 0 and the entry goes. The number `race`
-    -- says whether the machine has halted.
-    pub core_way : (race : ℕ) → st.halted ≡ not (eqb race 0)
-        → Way u s st c age (cond (eqb race 0) (core_refusal age batches (core_at s (seat u c)) (list_of u s (other c))) 130)
-    core_way race halted_is = by_race (eqb race 0) refl
-      where
-        by_race : (b : Bool) → eqb race 0 ≡ b
-            → Way u s st c age (cond b (core_refusal age batches (core_at s (seat u c)) (list_of u s (other c))) 130)
-        by_race true e = running_way (halted_is ∙ ap not e)
-        by_race false e = inl (halted_way g r c age (halted_is ∙ ap not e), omega arith)
+    -- THE REFUSAL of an entry that names core c: a mark from 130 on, with which the definition refuses, or 0 and the entry goes.
+    pub core_way : (halted : Bool) → st.halted ≡ halted
+        → Way u s st c age (cond halted 130 (core_refusal age batches (core_at s (seat u c)) (list_of u s (other c))))
+    core_way true h = inl (halted_way g r c age h, omega arith)
+    core_way false h = running_way h

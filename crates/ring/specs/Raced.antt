@@ -1,21 +1,33 @@
--- The answer of the race question, case by case: which code, which entry and which partner it tells, and the number that a C host is handed.
-use Rattle.std.specs.Prelude.{ℕ}
+-- The answer of the race question, case by case: which entry and which partner it tells (its code is `code_in` of the file's refusals), and the number
+-- that a C host is handed.
+use Rattle.std.specs.Prelude.{ℕ, ◌<◌, Option, Some, None, Result, Ok, Err, IfSome}
 use Rattle.model.specs.RaceAnswer.{packed}
-use Rattle.ring.specs.declared.race.Raced.{Raced}
-use Rattle.ring.specs.declared.race.Raced.TheVariants.{Refused, Ran}
+use Rattle.file.specs.declared.error.FileError.{FileError}
+use Rattle.ring.specs.declared.race.DataRace.{DataRace}
 
-abbrev pub code_in : Raced → ℕ
-code_in (Refused code) = code
-code_in (Ran entry partner) = 0
+-- The two numbers that tell of a race, both 0 where there was none.
+abbrev pub race_entry : Option DataRace → ℕ
+race_entry None = 0
+race_entry (Some race) = race.entry
 
-abbrev pub entry_in : Raced → ℕ
-entry_in (Refused code) = 0
-entry_in (Ran entry partner) = entry
+abbrev pub race_partner : Option DataRace → ℕ
+race_partner None = 0
+race_partner (Some race) = race.partner
 
-abbrev pub partner_in : Raced → ℕ
-partner_in (Refused code) = 0
-partner_in (Ran entry partner) = partner
+-- Where there was a race, its entry has a number: entries are counted from 1.
+abbrev pub IsRace : Option DataRace → Type 0
+IsRace race = IfSome race (λ r. 0 < r.entry)
 
--- Both cases as one number.
-abbrev pub packed_of : Raced → ℕ
-packed_of a = packed (code_in a) (entry_in a) (partner_in a)
+-- The two numbers of an answer.
+abbrev pub entry_in : Result (Option DataRace) FileError → ℕ
+entry_in (Ok race) = race_entry race
+entry_in (Err refused) = 0
+
+abbrev pub partner_in : Result (Option DataRace) FileError → ℕ
+partner_in (Ok race) = race_partner race
+partner_in (Err refused) = 0
+
+-- All cases as one number, where a refusal is told by its code.
+abbrev pub packed_of : Result (Option DataRace) ℕ → ℕ
+packed_of (Ok race) = packed 0 (race_entry race) (race_partner race)
+packed_of (Err code) = packed code 0 0

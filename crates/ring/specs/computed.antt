@@ -1,4 +1,8 @@
 -- The machine over the code's own structs, for the private functions' contracts: no promise rests on it.
+pub mod Who
+pub mod Marks
+pub mod Orders
+pub mod AtEnd
 pub mod State
 pub mod Reads
 pub mod Moves

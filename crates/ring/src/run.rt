@@ -1,47 +1,44 @@
 // The run over all entries of the schedule.
-ghost use Rattle.std.specs.Prelude.{◌≡◌, ◌*◌, ◌<◌, ◌≤◌, length};
-ghost use Rattle.ring.specs.computed.Run.{who_of, next_place, put_byte, Ready, Finished};
+ghost use Rattle.std.specs.Prelude.{◌≡◌, ◌*◌, ◌<◌, ◌≤◌, length, IsSome};
+ghost use Rattle.ring.specs.computed.Run.{next_place, put_byte, Ready, Finished};
 
+use crate::marks::{last_byte, last_mark};
 use crate::reads::{byte_for, fresh_ring, size_of};
 use crate::refusal::refusal;
 use crate::state::Ran;
+use crate::who::Who;
+use file::parts::schedule_at;
 
 // Each entry in turn: refused with its mark, or the move that its core's phase chooses. Each arm hands the state back to where it was, so that
 // the compiler copies no part of it but what the move changes. The marks lie `each` apart, and so do the bytes read: 1, or 0 for who
-// asks only for the numbers and lends one byte for all.
-pub(crate) fn run(
-    file: &[u8],
-    at: usize,
-    n: usize,
-    each: usize,
-    marks: &mut [u8],
-    out: &mut [u8],
-) -> Ran
-    requires { Ready file.now at n each (length marks.old) (length out.old) }
-    ensures { Finished file.now n each marks.old out.old result marks.new out.new }
+// asks only for the numbers and lends one byte for all. It is a factor and no enum: asked at each write which of the two it is, a refused entry takes
+// twice as long. The two buffers stand by themselves, since a struct of them would be made and taken apart in this one function.
+pub(crate) fn run(file: &[u8], each: usize, marks: &mut [u8], out: &mut [u8]) -> Ran
+    requires { Ready file.now each (length marks.old) (length out.old) }
+    ensures { Finished file.now each marks.old out.old result marks.new out.new }
 {
+    let at = schedule_at(file);
+    let n = (file.len() - at) / 2;
     let mut ring = fresh_ring(file);
     let mut performed: u32 = 0;
     let mut k: usize = 0;
-    let mut i: usize = 0;
-    while i < n {
+    for i in 0..n {
         let a = at + 2 * i;
         let core = file[a];
         let age = file[a + 1];
-        let who = who_of(core);
+        let who = Who::of_byte(core);
         let cores = ring.cores;
-        let no = refusal(file, core, age, ring.race, cores, ring.back, ring.front);
-        if no != 0 {
-            marks[i * each] = no;
-            i += 1;
+        if let Err(refused) = refusal(file, core, age, ring.race, cores, ring.back, ring.front) {
+            marks[i * each] = refused.mark();
             continue;
         }
-        let c = cores[who];
+        let c = cores[who.place()];
         let entry = (i + 1) as u16;
+        // The phase's number, as the project has named this form.
         let phase = c.phase;
         match phase {
             0 => {
-                ring = ring.own_load(who, size_of(file, who, c.batch));
+                ring = ring.own_load(who, u16::from(size_of(file, who, c.batch)));
             }
             1 => {
                 ring = ring.foreign_load(who, age);
@@ -53,37 +50,32 @@ pub(crate) fn run(
                 ring = ring.index_store(who, entry);
             }
         }
-        marks[i * each] = ring.mark;
-        k = keep_byte(out, k, each, ring.mark, ring.byte);
+        let last = ring.last;
+        marks[i * each] = last_mark(last);
+        k = keep_byte(out, k, each, last_byte(last));
         performed += 1;
-        i += 1;
     }
     Ran {
-        ring: ring,
-        performed: performed,
+        ring,
+        entries: n as u32,
+        performed,
         loads: k,
     }
 }
 
-// The core's place among the two: 0 for core byte 0, else 1.
-#[tactic(auto, unfolding(crate::specs::computed::Run::who_of))]
-fn who_of(core: u8) -> usize
-    ensures { (result ≡ who_of core) × (result < 2) }
-{
-    if core == 0 {
-        return 0;
-    }
-    1
-}
-
 // The byte of a data load goes to the next place of out.
-fn keep_byte(out: &mut [u8], k: usize, each: usize, mark: u8, byte: u8) -> usize
-    requires { (each ≤ 1) × ((k < 65536) × (mark ≡ 5 → k * each < length out.old)) }
-    ensures { (result ≡ next_place k mark) × (out.new ≡ put_byte out.old (k * each) mark byte) }
+fn keep_byte(out: &mut [u8], k: usize, each: usize, read: Option<u8>) -> usize
+    requires each { each ≤ 1 }
+    requires low { k < 65536 }
+    requires room { IsSome read → k * each < length out.old }
+    ensures next { result ≡ next_place k read }
+    ensures out { out.new ≡ put_byte out.old (k * each) read }
 {
-    if mark == 5 {
-        out[k * each] = byte;
-        return k + 1;
+    match read {
+        Some(byte) => {
+            out[k * each] = byte;
+            k + 1
+        }
+        None => k,
     }
-    k
 }

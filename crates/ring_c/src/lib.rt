@@ -14,5 +14,8 @@ pub extern "C" fn ferrulique_run(
 ) -> u32
     ensures { Outcome file.now marks.old out.old report.old result marks.new out.new report.new }
 {
-    ring::ferrulique_run(file, marks, out, report)
+    match ring::ferrulique_run(file, marks, out, report) {
+        Ok(()) => 0,
+        Err(refused) => refused.code(),
+    }
 }

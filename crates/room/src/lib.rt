@@ -9,30 +9,20 @@ pub fn shortfall(lead: u32, modulus: u32, size: u16, own: u16, cached: u16) -> u
     ensures { result ≡ shortfall_of lead modulus size own cached }
 {
     let room = room_of(lead, modulus, own, cached);
-    if size as u64 <= room {
-        return 0;
-    }
-    size - room as u16
+    u64::from(size).saturating_sub(room) as u16
 }
 
-// The room: (cached + lead - own) mod M.
+// The room: (cached + lead - own) mod M. The remainder of a number by 0 is the number.
 fn room_of(lead: u32, modulus: u32, own: u16, cached: u16) -> u64
     ensures { result ≡ room_of lead modulus own cached }
 {
-    let ahead = cached as u64 + lead as u64 + beyond(modulus, own);
-    if modulus == 0 {
-        return ahead;
-    }
-    ahead % (modulus as u64)
+    let ahead = u64::from(cached) + u64::from(lead) + u64::from(beyond(modulus, own));
+    ahead.checked_rem(u64::from(modulus)).unwrap_or(ahead)
 }
 
 // How far the modulus lies beyond an index.
-fn beyond(modulus: u32, own: u16) -> u64
+fn beyond(modulus: u32, own: u16) -> u32
     ensures { result ≡ modulus - own }
 {
-    let index = own as u32;
-    if index < modulus {
-        return (modulus - index) as u64;
-    }
-    0
+    modulus.saturating_sub(u32::from(own))
 }

@@ -1,14 +1,11 @@
--- A number is written byte by byte where its four bytes have a place, and not at all elsewhere.
-use Rattle.std.proofs.Common.{arith}
-use Rattle.little.proofs.Written.{put_none, put_each}
+-- A number's four bytes are put in place where there are four, and not at all elsewhere.
+use Rattle.std.proofs.Common.{arith, ◌∙◌}
+use Rattle.little.proofs.Written.{put_none, put_in_place}
 use Rattle.little.proofs.put4.Goals as goal
 
-pub returns-then-n-lt4 : goal.returns-then-n-lt4
-returns-then-n-lt4 c = put_none c.args.bytes.now c.args.at c.args.x (omega arith)
+pub returns-then-saturating_add-bytes : goal.returns-then-saturating_add-bytes
+returns-then-saturating_add-bytes c =
+    put_in_place c.args.bytes.now _ c.args.at c.args.x (omega arith) (c.copy_from_slice.ensures.after ∙ c.to_le_bytes.ensures)
 
-pub returns-then-n-at : goal.returns-then-n-at
-returns-then-n-at c = put_none c.args.bytes.now c.args.at c.args.x (omega arith)
-
-pub returns : goal.returns
-returns c =
-    rw (c.byte_of-4.ensures, c.byte_of-3.ensures, c.byte_of-2.ensures, c.byte_of.ensures) (put_each c.args.bytes.now c.args.at c.args.x (omega arith))
+pub returns-else-saturating_add-bytes : goal.returns-else-saturating_add-bytes
+returns-else-saturating_add-bytes c = put_none c.args.bytes.now c.args.at c.args.x (omega arith)

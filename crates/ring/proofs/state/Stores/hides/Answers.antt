@@ -1,28 +1,19 @@
--- Where no store is later than the chosen one none hides it; else the walk answers at the first that does.
-use Rattle.std.proofs.Common.{arith, ◌+◌, ap, sym, ◌∙◌}
+-- Where no store is later than the chosen one none hides it; else the walk over the later ones answers.
+use Rattle.std.proofs.Common.{rules, arith, tests, ap, sym, ◌∙◌}
+use Rattle.std.specs.Slice.Iter.{iter_rest}
+use Rattle.std.proofs.lemmas.Iterator.Adapters.{YieldsList-from_rev_slice}
+use Rattle.std.proofs.lemmas.Iterator.Search.{any_from_yields_List}
+use lib.Dec.{leb}
 use Rattle.ring.specs.computed.State.{later_known}
-use Rattle.ring.proofs.Walk.{walk_none, walk_hit, walk_miss}
+use Rattle.ring.proofs.Walk.{walk_none, walk_any}
 use Rattle.ring.proofs.state.Stores.hides.Goals as goal
 
 pub returns-then-n-place : goal.returns-then-n-place
-returns-then-n-place c = sym (walk_none c.args.self.entries c.args.place c.args.known c.args.self.count (omega arith))
-
-pub returns-then-n-place-2 : goal.returns-then-n-place-2
-returns-then-n-place-2 c = sym (walk_none c.args.self.entries c.args.place c.args.known c.args.self.count (omega arith))
-
-pub returns-then-entries-j : goal.returns-then-entries-j
-returns-then-entries-j c =
-    sym (c.loop-j.invariant.2 ∙ walk_hit c.args.self.entries c.args.place c.args.known c.loop-j.j (omega (arith, c.loop-j-test.true)) c.if-entries-j.true)
-
-pub loop-j-preserved : goal.loop-j-preserved
-loop-j-preserved c = (
-  omega arith,
-  omega (arith, c.loop-j.invariant.1),
-  c.loop-j.invariant.2
-      ∙ walk_miss c.args.self.entries c.args.place c.args.known c.loop-j.j (omega (arith, c.loop-j-test.true)) c.if-entries-j.false
-      ∙ ap (later_known c.args.self.entries c.args.place c.args.known) (omega arith),
-)
+returns-then-n-place c = sym (walk_none c.args.self.now.entries c.args.place c.args.known c.args.self.now.count (omega arith))
 
 pub returns : goal.returns
 returns c =
-    sym (c.loop-j.invariant.2 ∙ walk_none c.args.self.entries c.args.place c.args.known (c.loop-j.j + 1) (omega (arith, c.loop-j-test.false)))
+    let later = YieldsList-from_rev_slice _ (ap iter_rest c.rev.ensures.source ∙ c.iter.ensures.rest) in
+    any_from_yields_List (λ entry. leb entry c.args.known) _ _ c.any.result c.any.ensures.ran later (λ x b q k. search (rules, tests))
+    ∙ sym (walk_any c.args.self.now.entries c.args.place c.args.known c.from-n.result (omega arith))
+    ∙ ap (later_known c.args.self.now.entries c.args.place c.args.known) c.from-n.ensures

@@ -1,0 +1,2 @@
+-- The crate's definitions, file by file.
+pub mod Row
