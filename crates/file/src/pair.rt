@@ -39,7 +39,7 @@ impl Layout {
         }
     }
 
-    // The ring's push sizes, as many as the file has.
+    // The ring's push sizes, as many as the file has. This and the next are a line over `part` each, as those of a run file.
     fn push_sizes(self, file: &[u8]) -> &[u8]
         ensures value { result.now ≡ take self.pushes (drop self.push file.now) }
         ensures few { length result.now < 256 }
@@ -122,7 +122,7 @@ pub fn check_pair_call(
     check_pair_buffers(file, marks, out1, report1, out2, report2)
 }
 
-// Is the call refused for a buffer that is too short? The codes are 9 to 11.
+// Is the call refused for a buffer that is too short? The codes are 9 to 11. A function of its own beside `check_buffers`, which says why.
 #[tactic(auto, unfolding(model::specs::PairCodes::pair_buffer_table, model::specs::PairFile::pair_schedule_of, model::specs::PairFile::pop_sizes_of))]
 fn check_pair_buffers(
     file: &[u8],

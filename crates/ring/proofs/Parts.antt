@@ -8,6 +8,7 @@ use native.Mathlib.Numerals.{add-one}
 use lib.Dec.{ltb}
 use lib.ListN.{get_or, length, take, drop}
 use lib.Seq.{drop-cons, get_or-take, get_or-drop}
+use Rattle.std.proofs.Math.Bool.{and_comm}
 use Rattle.order.specs.Trace.{Core, core0, core1, other, same_core, index, load, Trace}
 use Rattle.order.specs.computed.Record.{know, syncs}
 use Rattle.order.proofs.Trace.{same_self}
@@ -123,20 +124,14 @@ phase_after_move i n = refl
 
 -- What a foreign load teaches
 
-and_swap : (a b : Bool) → (a && b) ≡ (b && a)
-and_swap true true = refl
-and_swap true false = refl
-and_swap false true = refl
-and_swap false false = refl
-
 syncs_is : (u : Site) (c : Core) → syncs_of (orders_of (part u).bits) (whom u c) ≡ syncs (shape u).orders c (index u.ring (other c))
 syncs_is u c = go (producer u) c (part u).bits
   where
     go : (p c : Core) (n : ℕ) → syncs_of (orders_of n) (whom_of p c)
         ≡ (same_core (other c) (other c) && (cond (same_core p c) (bit n 0) (bit n 2) && cond (same_core p (other c)) (bit n 1) (bit n 3)))
     go core0 core0 n = let e : n / 1 ≡ n = omega arith in rw e refl
-    go core0 core1 n = and_swap (bit n 1) (bit n 2)
-    go core1 core0 n = and_swap (bit n 1) (bit n 2)
+    go core0 core1 n = and_comm (bit n 1) (bit n 2)
+    go core1 core0 n = and_comm (bit n 1) (bit n 2)
     go core1 core1 n = let e : n / 1 ≡ n = omega arith in rw e refl
 
 learnt_go : (b : Bool) (a s : ℕ) → cond b (max a s) a ≡ max a (cond b s 0)

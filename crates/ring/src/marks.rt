@@ -41,7 +41,7 @@ impl Performed {
     }
 }
 
-// The mark of the latest move, 0 before the first.
+// The mark of the latest move, as the marks have it. It is asked after a move; before the first it is 0, which is no mark.
 pub(crate) fn last_mark(last: Option<Performed>) -> u8
     ensures { result ≡ last_mark last }
 {

@@ -20,7 +20,7 @@ pub struct DataRace {
     pub partner: u16,
 }
 
-// The two numbers that tell of a race, both 0 where there was none.
+// The two numbers that tell of a race, both 0 where there was none: the report's format and C's.
 pub(crate) fn told(race: Option<DataRace>) -> (u16, u16)
     ensures entry { result.0 ≡ race_entry race }
     ensures partner { result.1 ≡ race_partner race }

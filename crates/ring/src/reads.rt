@@ -25,7 +25,8 @@ pub(crate) fn size_of(file: &[u8], who: Who, batch: u16) -> u8
     }
 }
 
-// The byte that the core's next data access stores: the producer's next byte to push; the consumer stores none.
+// The byte that the core's next data access stores: the producer's next byte to push. The consumer stores none, and its 0 is not looked at: an Option
+// would be taken apart by the core again in the move.
 #[tactic(auto, unfolding(crate::specs::computed::Reads::byte_for))]
 pub(crate) fn byte_for(file: &[u8], who: Who, passed: u16, moved: u16) -> u8
     ensures { result ≡ byte_for file.now who passed moved }

@@ -12,7 +12,7 @@ use file::parts::schedule_at;
 // Each entry in turn: refused with its mark, or the move that its core's phase chooses. Each arm hands the state back to where it was, so that
 // the compiler copies no part of it but what the move changes. The marks lie `each` apart, and so do the bytes read: 1, or 0 for who
 // asks only for the numbers and lends one byte for all. It is a factor and no enum: asked at each write which of the two it is, a refused entry takes
-// twice as long. The two buffers stand by themselves, since a struct of them would be made and taken apart in this one function.
+// twice as long, and is to take no longer than in plain C. The two buffers stand by themselves: a struct of them would be made here, for `keep_byte`.
 pub(crate) fn run(file: &[u8], each: usize, marks: &mut [u8], out: &mut [u8]) -> Ran
     requires { Ready file.now each (length marks.old) (length out.old) }
     ensures { Finished file.now each marks.old out.old result marks.new out.new }

@@ -1,2 +1,3 @@
 -- The crate's definitions, file by file.
+pub mod Pieces
 pub mod Row

@@ -1,5 +1,6 @@
 // Standard output, to which text goes in pieces.
 ghost use Rattle.std.specs.Prelude.{◌≡◌, ◌+◌, ◌<◌, ◌≤◌, [], ◌∷◌, ◌++◌, length};
+ghost use Rattle.runlist.specs.Pieces.{last_piece};
 
 use arrayvec::ArrayVec;
 use std::fmt;
@@ -48,10 +49,13 @@ impl Output {
 }
 
 impl fmt::Write for Output {
-    // Holds the text behind what is held, and sends each piece that is full.
+    // Holds the text behind what is held, and sends each full piece once a byte comes behind it: of all that was held and given, the last piece is held then.
+    #[tactic(auto, using(crate::proofs::Pieces::one_piece, crate::proofs::Pieces::byte_more))]
     fn write_str(&mut self, text: &str) -> fmt::Result
+        ensures held { self.new.held.items ≡ last_piece (self.old.held.items ++ text.now) }
         ensures room { length self.old.held.items + length text.now ≤ 4096 → self.new.held.items ≡ self.old.held.items ++ text.now }
     {
+        prove!(self.held.len() <= PIECE);
         for byte in text.as_bytes() {
             self.push(*byte);
         }
