@@ -8,7 +8,7 @@ use Rattle.std.specs.declared.fmt.Formatter.{Formatter}
 use Rattle.runlist.specs.Row.{each_after_space, row_text}
 
 -- Texts that stand together group either way.
-text_assoc : (o p q : Option (List ℕ)) → (o ++? p) ++? q ≡ o ++? (p ++? q)
+pub text_assoc : (o p q : Option (List ℕ)) → (o ++? p) ++? q ≡ o ++? (p ++? q)
 text_assoc None p q = refl
 text_assoc (Some a) None q = refl
 text_assoc (Some a) (Some b) None = refl

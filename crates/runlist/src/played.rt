@@ -3,6 +3,7 @@ ghost use Rattle.std.specs.Prelude.{◌≡◌, ◌+◌, ◌*◌, ◌<◌, take, 
 ghost use Rattle.model.specs.File.{number4};
 ghost use Rattle.runlist.specs.Row.{played_text};
 
+use crate::line::Line;
 use crate::row::Row;
 use file::limits::Limits;
 use std::{array, fmt};
@@ -61,8 +62,8 @@ impl fmt::Display for Played<'_> {
     // Prints the code and then the three rows, each on a line.
     fn fmt<W: fmt::Write>(&self, f: &mut fmt::Formatter<W>) -> fmt::Result {
         let report = Row(&self.report);
-        let marks = Row(self.marks);
-        let bytes = Row(self.bytes);
-        write!(f, "code 0\n{report}\n{marks}\n{bytes}\n")
+        let marks = Line(self.marks);
+        let bytes = Line(self.bytes);
+        write!(f, "code {}\n{report}\n{marks}{bytes}", 0u32)
     }
 }
