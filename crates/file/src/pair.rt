@@ -134,12 +134,13 @@ fn check_pair_buffers(
 ) -> Result<(), FileError>
     ensures { code_in result ≡ first_of (pair_buffer_table file.now marks out1 report1 out2 report2) }
 {
-    let first = total(first_layout(file).pop_sizes(file));
-    let second = total(second_layout(file).pop_sizes(file));
     if marks < entries(file, pair_schedule_at(file)) {
         return Err(FileError::MarksTooShort);
     }
-    if out1 < first || out2 < second {
+    // Each sum only where it is asked for.
+    if out1 < total(first_layout(file).pop_sizes(file))
+        || out2 < total(second_layout(file).pop_sizes(file))
+    {
         return Err(FileError::OutTooShort);
     }
     if report1 < Limits::REPORT || report2 < Limits::REPORT {
