@@ -2,7 +2,6 @@
 pub mod Who
 pub mod Marks
 pub mod Orders
-pub mod AtEnd
 pub mod State
 pub mod Reads
 pub mod Moves

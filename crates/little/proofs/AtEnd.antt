@@ -1,4 +1,4 @@
--- What an index's list keeps when one store more is put at its end, said of its arrays and of its count. Not needed to believe any promise.
+-- What a list of 256 numbers keeps when one is put behind the first n: its length, and that what was put there is the newest.
 use Rattle.std.specs.Prelude.{◌≡◌, List, ℕ, ◌+◌, ◌-◌, ◌<◌, length, get_or, set}
 use Rattle.std.proofs.Common.{sym, ◌∙◌, subst}
 use Rattle.std.proofs.Math.Nat.{add-sub_cancel, zero-lt-suc}
