@@ -41,6 +41,15 @@ pub record Turning (f : List ℕ) (at n each : ℕ) (marks₀ out₀ marks out :
   pub ready : Ready f each (length marks₀) (length out₀)
   pub going : Going f each marks₀ out₀ marks out s performed k i
 
+-- A refusal's mark is not 0.
+pub never_zero : (refused : Refusal) → ¬ (refusal_mark refused ≡ 0)
+never_zero NoSuchCore q = omega arith
+never_zero Halted q = omega arith
+never_zero NoBatchLeft q = omega arith
+never_zero NoAgeHere q = omega arith
+never_zero PastInitial q = omega arith
+never_zero StoreHidden q = omega arith
+
 -- Before the first entry.
 pub turning_none : {f : List ℕ} {at n each : ℕ} {marks out : List ℕ} → ((k : ℕ) → byte_at f k < 256) → Ready f each (length marks) (length out)
     → at ≡ schedule_at f → n ≡ (length f - at) / 2 → {s : Ring} → s ≡ fresh_of f → Turning f at n each marks out marks out s 0 0 0
@@ -48,9 +57,9 @@ turning_none {f} {at} {n} {each} {marks} {out} bytes ready ea en e =
     let g = good f ready.lawful bytes in
     record { fine = g; at_is = ea; n_is = entries_are f at n ready.lawful ea en; ready = ready; going = rw e (going_none g each marks out) }
 
--- One entry: its two bytes, and the code's answer, which is 0 where it goes.
+-- One entry: its two bytes.
 module _ {f : List ℕ} {at n each : ℕ} {marks₀ out₀ marks out : List ℕ} {s : Ring} {performed k i : ℕ} (z : Turning f at n each marks₀ out₀ marks out s performed k i)
-    (more : i < n) {v : ℕ} (ev : v ≡ answer f s (get_or f (at + 2 * i) 0) (get_or f (at + 2 * i + 1) 0)) where
+    (more : i < n) where
   abbrev core : ℕ
   core = get_or f (at + 2 * i) 0
 
@@ -74,41 +83,38 @@ module _ {f : List ℕ} {at n each : ℕ} {marks₀ out₀ marks out : List ℕ}
       let e : at + 2 * i + 1 ≡ schedule_at f + (2 * i + 1) = omega (arith, z.at_is) in
       ap (λ (j : ℕ). get_or f j 0) e
 
-  -- It is refused, and its mark is written.
-  pub refused_turns : (refused : Refusal) → v ≡ refusal_mark refused → {marks' : List ℕ} → marks' ≡ set marks (i * each) v
+  -- It is refused: the code's answer is not 0, and is written as its mark.
+  pub refused_turns : {v : ℕ} {marks' : List ℕ} → marks' ≡ set marks (i * each) v → v ≡ answer f s core age → ¬ (v ≡ 0)
       → Turning f at n each marks₀ out₀ marks' out s performed k (i + 1)
-  refused_turns refused e em = record {
+  refused_turns {v} em ev some = record {
     fine = z.fine;
     at_is = z.at_is;
     n_is = z.n_is;
     ready = z.ready;
-    going = rw em (going_refused z.fine z.going fit fits left v (ev ∙ rw (the_core, the_age) refl) (λ q. no_zero refused (sym e ∙ q)));
+    going = rw em (going_refused z.fine z.going fit fits left v (ev ∙ rw (the_core, the_age) refl) some);
   }
-    where
-      no_zero : (x : Refusal) → ¬ (refusal_mark x ≡ 0)
-      no_zero NoSuchCore q = omega arith
-      no_zero Halted q = omega arith
-      no_zero NoBatchLeft q = omega arith
-      no_zero NoAgeHere q = omega arith
-      no_zero PastInitial q = omega arith
-      no_zero StoreHidden q = omega arith
-
-  goes_on : v ≡ 0 → GoesOne f s (end_to f i) core age
-  goes_on h = go (verdict z.fine z.going.share.rep z.going.halted_is core age)
-    where
-      go : ((step (shape_of f) (end_to f i) (record { core = core; age = age }) ≡ refused first_ring ((end_to f i).queue first_ring) (answer f s core age)) × (129 ≤ answer f s core age))
-          ⊎ (GoesOne f s (end_to f i) core age × (answer f s core age ≡ 0)) → GoesOne f s (end_to f i) core age
-      go (inr x) = x.0
-      go (inl x) = absurd (omega (arith, ev, x.1))
 
   -- The entry's number.
   number_is : next (end_to f i).trace ≡ i + 1
   number_is = omega (arith, z.going.marked.entries_are)
 
-  -- It goes: what the moves ask of core w, and that the move made joins the definition's step, for each phase.
-  module _ (h : v ≡ 0) {w : Who} (ew : w ≡ who_of core) {p : ℕ} (ep : p ≡ core_place w) where
+  -- The move that was made joins the definition's step.
+  abbrev pub Joins : Ring → Type 0
+  Joins s' = Joined (site_of f) s' (here (end_to f i) first_ring) (of_ring first_ring (results_to f i)) (step (shape_of f) (end_to f i) (record { core = core; age = age }))
+
+  -- It goes: the code's answer is 0.
+  abbrev pub Goes : Type 0
+  Goes = 0 ≡ answer f s core age
+
+  -- What the moves then ask of core w, and that the move made joins, for each phase.
+  module _ (goes : Goes) {w : Who} (ew : w ≡ who_of core) {p : ℕ} (ep : p ≡ core_place w) where
     on : GoesOne f s (end_to f i) core age
-    on = goes_on h
+    on = go (verdict z.fine z.going.share.rep z.going.halted_is core age)
+      where
+        go : ((step (shape_of f) (end_to f i) (record { core = core; age = age }) ≡ refused first_ring ((end_to f i).queue first_ring) (answer f s core age)) × (129 ≤ answer f s core age))
+            ⊎ (GoesOne f s (end_to f i) core age × (answer f s core age ≡ 0)) → GoesOne f s (end_to f i) core age
+        go (inr x) = x.0
+        go (inl x) = absurd (omega (arith, goes, x.1))
 
     pub bounded : Bounded (core_at s (core_place w))
     bounded = bounds z.fine z.going.share.rep core age on w ew
@@ -121,9 +127,6 @@ module _ {f : List ℕ} {at n each : ℕ} {marks₀ out₀ marks out : List ℕ}
 
     pub has_place : (chosen w s.back s.front).count < 256
     has_place = count_lt z.fine z.going.share.rep core age on w ew
-
-    abbrev pub Joins : Ring → Type 0
-    Joins s' = Joined (site_of f) s' (here (end_to f i) first_ring) (of_ring first_ring (results_to f i)) (step (shape_of f) (end_to f i) (record { core = core; age = age }))
 
     pub own_joins : (core_at s p).phase ≡ 0 → {size : ℕ} → size ≡ size_at f w (core_at s p).batch → {s' : Ring} → s' ≡ own_load s w size → Joins s'
     own_joins q es e = rw (e, es, ep) (own_arm z.fine z.going.share.rep core age on w ew (rw ep at q))
@@ -140,7 +143,7 @@ module _ {f : List ℕ} {at n each : ℕ} {marks₀ out₀ marks out : List ℕ}
     index_joins a b d e = rw (e has_place, ← number_is)
         (index_arm z.fine z.going.share.rep core age on w ew (λ q. a (rw ep q)) (λ q. b (rw ep q)) (λ q. d (rw ep q)) has_place)
 
-  module _ {s' : Ring} (j : Joined (site_of f) s' (here (end_to f i) first_ring) (of_ring first_ring (results_to f i)) (step (shape_of f) (end_to f i) (record { core = core; age = age }))) where
+  module _ {s' : Ring} (j : Joins s') where
     joined_here : Joined (site_of f) s' (here (end_to f i) first_ring) (of_ring first_ring (results_to f i)) (step (shape_of f) (end_to f i) (entry_at f i))
     joined_here = rw (the_core, the_age) at j
 
