@@ -46,10 +46,6 @@ number_more row held n below =
     ∙ sym (append_assoc held (decimal x) (follows rest ∷ numbers_text rest))
     ∙ sym (append_assoc (held ++ decimal x) (follows rest ∷ []) (numbers_text rest))
 
--- Behind the last number there is none.
-pub no_more : (row : List ℕ) (n : ℕ) → length row ≤ n → numbers_text (drop n row) ≡ []
-no_more row n past = ap numbers_text (drop_all n row past)
-
 -- Numbers, each with what follows it, are the row and the line's end.
 numbers_are : (x : ℕ) (xs : List ℕ) → Some (numbers_text (x ∷ xs)) ≡ decimals (x ∷ xs) ++? Some (10 ∷ [])
 numbers_are x [] = ap (λ t. Some (t ++ 10 ∷ [])) (sym (append-nil (decimal x)))
