@@ -114,7 +114,7 @@ static inline uint32_t ferrulique_race_partner(uint64_t answer) { return (uint32
  * three buffers lie apart from one another and from the file. No value of any byte and no length is refused in any way but by a code. A null
  * pointer is fine where its length is 0. The function keeps nothing between calls, allocates nothing, calls nothing but memcpy and memset, and
  * may run in several threads at once on buffers of their own. It always returns: time grows with the entries and, at a foreign load, with the
- * stores of the index, at most 256. Stack: 5,320 bytes measured on x86-64, whatever the file.
+ * stores of the index, at most 256. Stack: 5,352 bytes measured on x86-64, whatever the file.
  *
  *   static uint8_t marks[FERRULIQUE_MOST_ENTRIES], out[FERRULIQUE_MOST_OUT_BYTES], report[FERRULIQUE_REPORT_BYTES];
  *   if (ferrulique_run(file, n, marks, sizeof marks, out, sizeof out, report, sizeof report) == FERRULIQUE_RAN) {
@@ -129,7 +129,7 @@ uint32_t ferrulique_run(const uint8_t *file, size_t file_len, uint8_t *marks, si
  * Its code is one of 0 to 8, FERRULIQUE_RAN to FERRULIQUE_ODD_SCHEDULE: the code that ferrulique_run gives to the file with buffers long enough.
  * For FERRULIQUE_RAN, ferrulique_race_entry and ferrulique_race_partner are the report's FERRULIQUE_RACE_ENTRY and FERRULIQUE_RACE_PARTNER. Bits
  * 56 to 63 are 0. The file is asked for what ferrulique_run asks of it: it is readable for its length, and may be a null pointer where that is 0.
- * It is not written to. What stands above of threads, allocation, time and what is called holds here too. Stack: 5,256 bytes measured on
+ * It is not written to. What stands above of threads, allocation, time and what is called holds here too. Stack: 5,272 bytes measured on
  * x86-64, whatever the file.
  *
  *   uint64_t answer = ferrulique_race(file, n);
